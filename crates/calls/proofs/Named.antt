@@ -1,0 +1,49 @@
+-- Which call a step's kind names.
+use Prim.Native.Nat.{ℕ, _≤_, _<_}
+use native.Mathlib.Omega.{arith}
+use lib.Dec.{eqb}
+use mathlib.Core.Path.{_≡_, refl, sym, _∙_}
+use mathlib.Core.List.{List, [], _∷_}
+use Rattle.base.specs.Choice.{pick, first}
+use Rattle.base.proofs.Tests.{pick-yes, pick-no, eq-yes, eq-no}
+use Rattle.rules.specs.Table.{State, Outcome, refuse}
+use Rattle.rules.specs.Check.{check}
+use Rattle.rules.specs.Steps.{step, source, target, taking, linking, shading, collecting, looking}
+use Rattle.rules.specs.declared.Step.{Step}
+use Rattle.rules.specs.declared.Place.{Place}
+use Rattle.rules.proofs.Laws.{step-taking, step-linking, step-shading, step-collecting, step-looking}
+
+module _ (a : Step) (s : State) where
+  is : (n : ℕ) (y o : Outcome) → a .kind ≡ n → y ≡ pick (eqb (a .kind) n) y o
+  is n y o h = pick-yes _ _ _ _ (eq-yes (a .kind) n h) refl
+
+  not : (n : ℕ) (z y o : Outcome) → (a .kind ≡ n → ⊥) → z ≡ o → z ≡ pick (eqb (a .kind) n) y o
+  not n z y o h q = pick-no _ _ _ _ (eq-no (a .kind) n h) q
+
+  pub kind-take : (p : Place) → p ≡ source a → a .kind ≡ 0 → step (taking p (a .side)) s ≡ step a s
+  unfolding step
+  kind-take p e h = step-taking p (a .side) s ∙ rw e (is 0 _ _ h)
+
+  pub kind-link : (p q : Place) → p ≡ source a → q ≡ target a → a .kind ≡ 1 → step (linking p (a .side) q) s ≡ step a s
+  unfolding step
+  kind-link p q e f h = step-linking p (a .side) q s ∙ rw (e, f) (not 0 _ _ _ (λ z. omega arith) (is 1 _ _ h))
+
+  pub kind-shade : a .kind ≡ 2 → step shading s ≡ step a s
+  unfolding step
+  kind-shade h = step-shading s ∙ not 0 _ _ _ (λ z. omega arith) (not 1 _ _ _ (λ z. omega arith) (is 2 _ _ h))
+
+  pub kind-collect : a .kind ≡ 3 → step collecting s ≡ step a s
+  unfolding step
+  kind-collect h =
+      step-collecting s ∙ not 0 _ _ _ (λ z. omega arith) (not 1 _ _ _ (λ z. omega arith) (not 2 _ _ _ (λ z. omega arith) (is 3 _ _ h)))
+
+  pub kind-look : (p : Place) → p ≡ source a → a .kind ≡ 4 → step (looking p) s ≡ step a s
+  unfolding step
+  kind-look p e h =
+      step-looking p s ∙ rw e
+      (not 0 _ _ _ (λ z. omega arith) (not 1 _ _ _ (λ z. omega arith) (not 2 _ _ _ (λ z. omega arith) (not 3 _ _ _ (λ z. omega arith) (is 4 _ _ h)))))
+
+  pub kind-none : (code : ℕ) → code ≡ first (check s ∷ 10 ∷ []) → (a .kind ≡ 0 → ⊥) → (a .kind ≡ 1 → ⊥) → (a .kind ≡ 2 → ⊥) → (a .kind ≡ 3 → ⊥) → (a .kind ≡ 4 → ⊥)
+      → refuse s code 0 ≡ step a s
+  unfolding step
+  kind-none code e h i j k l = not 0 _ _ _ h (not 1 _ _ _ i (not 2 _ _ _ j (not 3 _ _ _ k (not 4 _ _ _ l (rw e)))))

@@ -1,0 +1,138 @@
+use Prim.Native.Nat.{_-_}
+use mathlib.Core.Path.{_∙_}
+use lib.ListN.{take}
+use borrow.Author.Needs.{needs}
+use Rattle.calls.proofs.Named.{kind-take, kind-link, kind-shade, kind-collect, kind-look, kind-none}
+use Rattle.calls.specs.Unreadable.{unreadable}
+use Rattle.calls.proofs.step.Statement.{statement}
+use Rattle.calls.proofs.step.Tie as tie
+
+source-requires : tie.Need-source-requires
+source-requires c κs = search needs
+
+take-requires : tie.Need-take-requires
+take-requires c κs = search needs
+
+same-length : tie.Need-same-length
+same-length c = search needs
+
+same-length-2 : tie.Need-same-length-2
+same-length-2 c = search needs
+
+same-length-3 : tie.Need-same-length-3
+same-length-3 c = search needs
+
+returns : tie.Need-returns
+returns c = c .before .before .before .before .before .before .take .ensures ∙ kind-take _ _ _ (c .before .before .before .before .before .before .before .source .ensures) (c .before .before .before .before .before .before .before .before .before .before .before .if1 .taken)
+
+source-requires-2 : tie.Need-source-requires-2
+source-requires-2 c κs = search needs
+
+target-requires : tie.Need-target-requires
+target-requires c κs = search needs
+
+link-requires : tie.Need-link-requires
+link-requires c κs = search needs
+
+same-length-4 : tie.Need-same-length-4
+same-length-4 c = search needs
+
+same-length-5 : tie.Need-same-length-5
+same-length-5 c = search needs
+
+same-length-6 : tie.Need-same-length-6
+same-length-6 c = search needs
+
+returns-2 : tie.Need-returns-2
+returns-2 c = c .before .before .before .before .link .ensures ∙ kind-link _ _ _ _ (c .before .before .before .before .before .before .source2 .ensures) (c .before .before .before .before .before .target .ensures) (c .before .before .before .before .before .before .before .before .before .before .if2 .taken)
+
+shade-requires : tie.Need-shade-requires
+shade-requires c κs = search needs
+
+same-length-7 : tie.Need-same-length-7
+same-length-7 c = search needs
+
+same-length-8 : tie.Need-same-length-8
+same-length-8 c = search needs
+
+same-length-9 : tie.Need-same-length-9
+same-length-9 c = search needs
+
+returns-3 : tie.Need-returns-3
+returns-3 c = c .before .before .shade .ensures ∙ kind-shade _ _ (c .before .before .before .before .before .before .if3 .taken)
+
+collect-requires : tie.Need-collect-requires
+collect-requires c κs = search needs
+
+same-length-10 : tie.Need-same-length-10
+same-length-10 c = search needs
+
+same-length-11 : tie.Need-same-length-11
+same-length-11 c = search needs
+
+same-length-12 : tie.Need-same-length-12
+same-length-12 c = search needs
+
+returns-4 : tie.Need-returns-4
+returns-4 c = c .before .before .before .before .before .before .collect .ensures ∙ kind-collect _ _ (c .before .before .before .before .before .before .before .before .before .before .if4 .taken)
+
+source-requires-3 : tie.Need-source-requires-3
+source-requires-3 c κs = search needs
+
+look-requires : tie.Need-look-requires
+look-requires c κs = search needs
+
+same-length-13 : tie.Need-same-length-13
+same-length-13 c = search needs
+
+same-length-14 : tie.Need-same-length-14
+same-length-14 c = search needs
+
+same-length-15 : tie.Need-same-length-15
+same-length-15 c = search needs
+
+returns-5 : tie.Need-returns-5
+returns-5 c = c .look .ensures ∙ kind-look _ _ _ (c .before .source3 .ensures) (c .before .before .before .before .before .if5 .taken)
+
+unreadable-requires : tie.Need-unreadable-requires
+unreadable-requires c κs = search needs
+
+returns-6 : tie.Need-returns-6
+unfolding unreadable
+returns-6 c = kind-none _ _ _ (c .unreadable .ensures) (c .before .before .before .before .before .if1 .left) (c .before .before .before .before .if2 .left) (c .before .before .before .if3 .left) (c .before .before .if4 .left) (c .before .if5 .left)
+
+pub step-spec : {M : Type 1} → statement M
+step-spec =
+    tie.close
+    (tie.spec
+    source-requires
+    take-requires
+    same-length
+    same-length-2
+    same-length-3
+    returns
+    source-requires-2
+    target-requires
+    link-requires
+    same-length-4
+    same-length-5
+    same-length-6
+    returns-2
+    shade-requires
+    same-length-7
+    same-length-8
+    same-length-9
+    returns-3
+    collect-requires
+    same-length-10
+    same-length-11
+    same-length-12
+    returns-4
+    source-requires-3
+    look-requires
+    same-length-13
+    same-length-14
+    same-length-15
+    returns-5
+    unreadable-requires
+    returns-6)

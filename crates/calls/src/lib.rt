@@ -1,0 +1,68 @@
+// A step by value: a kind and seven numbers, done by the call that the kind names.
+use rules::Answer;
+use rules::Made;
+use rules::Place;
+use rules::Record;
+use rules::Step;
+ghost use mathlib.Core.Path.{_≡_};
+ghost use lib.ListN.{length};
+ghost use Rattle.rules.specs.Table.{state, outcome};
+ghost use Rattle.rules.specs.Steps.{step, source, target};
+ghost use Rattle.calls.specs.Unreadable.{unreadable};
+
+fn source(a: Step) -> Place
+    ensures { λ p. ⌜ p ≡ source a ⌝ }
+{
+    Place {
+        slot: a.slot,
+        count: a.count,
+        word: a.word,
+    }
+}
+
+fn target(a: Step) -> Place
+    ensures { λ p. ⌜ p ≡ target a ⌝ }
+{
+    Place {
+        slot: a.toslot,
+        count: a.tocount,
+        word: a.toword,
+    }
+}
+
+// The code of a kind that is none: 1, 2, else 10.
+fn unreadable(lefts: usize, rights: usize, colours: usize, x: Record) -> u8
+    ensures { λ code. ⌜ code ≡ unreadable lefts rights colours x ⌝ }
+{
+    let code = rules::check(lefts, rights, colours, x);
+    if code != 0 {
+        return code;
+    }
+    10
+}
+
+// One step: 0 take, 1 link, 2 shade, 3 collect, 4 look.
+pub fn step(left: &mut [u16], right: &mut [u16], colour: &mut [u8], x: Record, a: Step) -> Made
+    ensures { λ r. ⌜ outcome r (now (left .exit)) (now (right .exit)) (now (colour .exit)) ≡ step a (state (now (left .entry)) (now (right .entry)) (now (colour .entry)) x) ⌝ }
+{
+    let kind = a.kind;
+    if kind == 0 {
+        return editor::take(left, right, colour, x, source(a), a.side);
+    }
+    if kind == 1 {
+        return editor::link(left, right, colour, x, source(a), a.side, target(a));
+    }
+    if kind == 2 {
+        return editor::shade(left, right, colour, x);
+    }
+    if kind == 3 {
+        return collector::collect(left, right, colour, x);
+    }
+    if kind == 4 {
+        return editor::look(left, right, colour, x, source(a));
+    }
+    Made {
+        answer: Answer::Refused(unreadable(left.len(), right.len(), colour.len(), x), 0),
+        rec: x,
+    }
+}

@@ -1,0 +1,59 @@
+use Prim.Native.Nat.{_-_}
+use borrow.Author.Needs.{needs}
+use Rattle.base.proofs.Tests.{tests}
+use Rattle.rules.specs.Collector.{appendStep}
+use Rattle.rules.proofs.Laws.{same}
+use Rattle.collector.proofs.append_step.Statement.{statement}
+use Rattle.collector.proofs.append_step.Tie as tie
+
+slice-read-if1 : tie.Need-slice-read-if1
+slice-read-if1 c = search needs
+
+slice-write-colour : tie.Need-slice-write-colour
+slice-write-colour c = search needs
+
+passed-requires : tie.Need-passed-requires
+passed-requires c κs = search needs
+
+same-length : tie.Need-same-length
+same-length c = search needs
+
+returns : tie.Need-returns
+unfolding appendStep
+returns c = search (same, tests, needs) depth 12
+
+slice-read-if2 : tie.Need-slice-read-if2
+slice-read-if2 c = search needs
+
+append-white-requires : tie.Need-append-white-requires
+append-white-requires c κs = search needs
+
+same-length-2 : tie.Need-same-length-2
+same-length-2 c = search needs
+
+same-length-3 : tie.Need-same-length-3
+same-length-3 c = search needs
+
+returns-2 : tie.Need-returns-2
+unfolding appendStep
+returns-2 c = search (c .before .before .before .before .append-white .ensures, tests, needs) depth 12
+
+returns-3 : tie.Need-returns-3
+unfolding appendStep
+returns-3 c = search (same, tests, needs) depth 12
+
+pub append-step-spec : {M : Type 1} → statement M
+append-step-spec =
+    tie.close
+    (tie.spec
+    slice-read-if1
+    slice-write-colour
+    passed-requires
+    same-length
+    returns
+    slice-read-if2
+    append-white-requires
+    same-length-2
+    same-length-3
+    returns-2
+    returns-3)

@@ -1,0 +1,78 @@
+use Prim.Native.Nat.{_-_}
+use native.Mathlib.Omega.{arith}
+use borrow.Author.Needs.{needs}
+use Rattle.base.specs.Choice.{pick}
+use Rattle.base.proofs.Tests.{tests}
+use Rattle.rules.specs.Table.{withEdge}
+use Rattle.rules.specs.Collector.{append, appendWhite}
+use Rattle.rules.proofs.Laws.{same}
+use Rattle.collector.proofs.append_white.Statement.{statement}
+use Rattle.collector.proofs.append_white.Tie as tie
+
+cast-end : tie.Need-cast-end
+cast-end c = search needs
+
+add-if1 : tie.Need-add-if1
+add-if1 c = search needs
+
+returns : tie.Need-returns
+unfolding appendWhite
+returns c = λ l. search (same, tests, needs) depth 12
+
+returns-2 : tie.Need-returns-2
+unfolding appendWhite
+returns-2 c = λ l. search (same, tests, needs) depth 12
+
+mul-left : tie.Need-mul-left
+mul-left c = search needs
+
+slice-write-left : tie.Need-slice-write-left
+slice-write-left c = search needs
+
+mul-right : tie.Need-mul-right
+mul-right c = search needs
+
+slice-write-right : tie.Need-slice-write-right
+slice-write-right c = search needs
+
+mul-left-2 : tie.Need-mul-left-2
+mul-left-2 c = search needs
+
+slice-write-left-2 : tie.Need-slice-write-left-2
+slice-write-left-2 c = search needs
+
+with-last-requires : tie.Need-with-last-requires
+with-last-requires c κs = search needs
+
+passed-requires : tie.Need-passed-requires
+passed-requires c κs = rw (c .with-last .ensures) (omega (arith, c .before .before .before .before .before .before .before .before .pre))
+
+same-length : tie.Need-same-length
+same-length c = search needs
+
+same-length-2 : tie.Need-same-length-2
+same-length-2 c = search needs
+
+returns-3 : tie.Need-returns-3
+unfolding appendWhite append withEdge pick
+returns-3 c = λ k. rw (← c .before .with-last .ensures) (search (same, tests, needs) depth 12)
+
+pub append-white-spec : {M : Type 1} → statement M
+append-white-spec =
+    tie.close
+    (tie.spec
+    cast-end
+    add-if1
+    returns
+    returns-2
+    mul-left
+    slice-write-left
+    mul-right
+    slice-write-right
+    mul-left-2
+    slice-write-left-2
+    with-last-requires
+    passed-requires
+    same-length
+    same-length-2
+    returns-3)

@@ -1,0 +1,23 @@
+use Prim.Native.Nat.{_-_}
+use borrow.Author.Needs.{needs}
+use Rattle.base.proofs.Tests.{tests}
+use Rattle.rules.specs.Collector.{blackStep}
+use Rattle.rules.proofs.Laws.{same}
+use Rattle.collector.proofs.black_step.Statement.{statement}
+use Rattle.collector.proofs.black_step.Tie as tie
+
+slice-write-colour : tie.Need-slice-write-colour
+slice-write-colour c = search needs
+
+rescan-requires : tie.Need-rescan-requires
+rescan-requires c κs = search needs
+
+same-length : tie.Need-same-length
+same-length c = search needs
+
+returns : tie.Need-returns
+unfolding blackStep
+returns c = λ l k. search (same, tests, needs) depth 12
+
+pub black-step-spec : {M : Type 1} → statement M
+black-step-spec = tie.close (tie.spec slice-write-colour rescan-requires same-length returns)

@@ -1,0 +1,43 @@
+use Prim.Native.Nat.{_-_}
+use mathlib.Core.Path.{sym, _∙_}
+use borrow.Author.Needs.{needs}
+use Rattle.rules.specs.Collector.{collect}
+use Rattle.rules.proofs.Good.{good, inside}
+use Rattle.rules.proofs.Laws.{unless-done, unless-refused, step-collecting}
+use Rattle.collector.proofs.collect.Statement.{statement}
+use Rattle.collector.proofs.collect.Tie as tie
+
+check-requires : tie.Need-check-requires
+check-requires c κs = search needs
+
+returns : tie.Need-returns
+unfolding collect
+returns c = rw step-collecting (unless-refused _ _ _ _ (c .before .check .ensures) (c .if1 .taken))
+
+phase-step-requires : tie.Need-phase-step-requires
+phase-step-requires c κs = (good _ _ _ _ (sym (c .before .before .before .if1 .left) ∙ c .before .before .before .before .check .ensures), inside _ _ _ _ (sym (c .before .before .before .if1 .left) ∙ c .before .before .before .before .check .ensures))
+
+same-length : tie.Need-same-length
+same-length c = search needs
+
+same-length-2 : tie.Need-same-length-2
+same-length-2 c = search needs
+
+same-length-3 : tie.Need-same-length-3
+same-length-3 c = search needs
+
+returns-2 : tie.Need-returns-2
+unfolding collect
+returns-2 c = rw step-collecting (unless-done _ _ _ _ _ (c .before .before .before .before .before .before .before .before .before .before .before .check .ensures) (c .before .before .before .before .before .before .before .before .before .before .if1 .left) (c .before .before .before .before .before .before .phase-step .ensures))
+
+pub collect-spec : {M : Type 1} → statement M
+collect-spec =
+    tie.close
+    (tie.spec
+    check-requires
+    returns
+    phase-step-requires
+    same-length
+    same-length-2
+    same-length-3
+    returns-2)

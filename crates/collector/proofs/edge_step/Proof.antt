@@ -1,0 +1,30 @@
+use Prim.Native.Nat.{_-_}
+use mathlib.Core.Path.{refl, sym, _∙_}
+use native.Mathlib.Omega.{arith}
+use borrow.Author.Needs.{needs}
+use Rattle.base.proofs.Tests.{pick-yes, pick-no}
+use Rattle.rules.specs.Collector.{edgeStep}
+use Rattle.rules.proofs.Laws.{fine-edge}
+use Rattle.collector.proofs.edge_step.Statement.{statement}
+use Rattle.collector.proofs.edge_step.Tie as tie
+
+bad-edge-requires : tie.Need-bad-edge-requires
+bad-edge-requires c κs = search needs
+
+returns : tie.Need-returns
+unfolding edgeStep
+returns c = λ l k. pick-yes _ _ _ _ (sym (c .if1 .taken) ∙ c .before .bad-edge .ensures) refl
+
+shade-step-requires : tie.Need-shade-step-requires
+shade-step-requires c κs = let h = fine-edge _ _ (sym (c .before .if1 .left) ∙ c .before .before .bad-edge .ensures) in omega arith
+
+same-length : tie.Need-same-length
+same-length c = search needs
+
+returns-2 : tie.Need-returns-2
+unfolding edgeStep
+returns-2 c = λ l k. pick-no _ _ _ _ (sym (c .before .before .before .before .if1 .left) ∙ c .before .before .before .before .before .bad-edge .ensures) (c .before .before .shade-step .ensures l k)
+
+pub edge-step-spec : {M : Type 1} → statement M
+edge-step-spec =
+    tie.close (tie.spec bad-edge-requires returns shade-step-requires same-length returns-2)

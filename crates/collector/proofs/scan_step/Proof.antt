@@ -1,0 +1,64 @@
+use Prim.Native.Nat.{_-_}
+use borrow.Author.Needs.{needs}
+use Rattle.base.proofs.Tests.{tests}
+use Rattle.rules.specs.Collector.{scanStep}
+use Rattle.rules.proofs.Laws.{same}
+use Rattle.collector.proofs.scan_step.Statement.{statement}
+use Rattle.collector.proofs.scan_step.Tie as tie
+
+shared-slice-read-if1 : tie.Need-shared-slice-read-if1
+shared-slice-read-if1 c = search needs
+
+returns : tie.Need-returns
+unfolding scanStep
+returns c = λ l k. search (same, tests, needs) depth 12
+
+shared-slice-read-if2 : tie.Need-shared-slice-read-if2
+shared-slice-read-if2 c = search needs
+
+moved-requires : tie.Need-moved-requires
+moved-requires c κs = search needs
+
+returns-2 : tie.Need-returns-2
+unfolding scanStep
+returns-2 c = λ l k. search (same, tests, needs) depth 12
+
+marked-requires : tie.Need-marked-requires
+marked-requires c κs = search needs
+
+returns-3 : tie.Need-returns-3
+unfolding scanStep
+returns-3 c = λ l k. search (same, tests, needs) depth 12
+
+add-t18 : tie.Need-add-t18
+add-t18 c = search needs
+
+rem-t19 : tie.Need-rem-t19
+rem-t19 c = search needs
+
+sub-t20 : tie.Need-sub-t20
+sub-t20 c = search needs
+
+moved-requires-2 : tie.Need-moved-requires-2
+moved-requires-2 c κs = search needs
+
+returns-4 : tie.Need-returns-4
+unfolding scanStep
+returns-4 c = λ l k. search (same, tests, needs) depth 12
+
+pub scan-step-spec : {M : Type 1} → statement M
+scan-step-spec =
+    tie.close
+    (tie.spec
+    shared-slice-read-if1
+    returns
+    shared-slice-read-if2
+    moved-requires
+    returns-2
+    marked-requires
+    returns-3
+    add-t18
+    rem-t19
+    sub-t20
+    moved-requires-2
+    returns-4)

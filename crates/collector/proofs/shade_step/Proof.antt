@@ -1,0 +1,32 @@
+use Prim.Native.Nat.{_-_}
+use borrow.Author.Needs.{needs}
+use Rattle.base.proofs.Tests.{tests}
+use Rattle.rules.specs.Collector.{shadeStep}
+use Rattle.rules.proofs.Laws.{same}
+use Rattle.collector.proofs.shade_step.Statement.{statement}
+use Rattle.collector.proofs.shade_step.Tie as tie
+
+slice-read-if1 : tie.Need-slice-read-if1
+slice-read-if1 c = search needs
+
+returns : tie.Need-returns
+unfolding shadeStep
+returns c = λ l k. search (same, tests, needs) depth 12
+
+shade-node-requires : tie.Need-shade-node-requires
+shade-node-requires c κs = search needs
+
+moved-requires : tie.Need-moved-requires
+moved-requires c κs = search needs
+
+same-length : tie.Need-same-length
+same-length c = search needs
+
+returns-2 : tie.Need-returns-2
+unfolding shadeStep
+returns-2 c = λ l k. search (same, tests, needs) depth 12
+
+pub shade-step-spec : {M : Type 1} → statement M
+shade-step-spec =
+    tie.close
+    (tie.spec slice-read-if1 returns shade-node-requires moved-requires same-length returns-2)

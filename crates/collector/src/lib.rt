@@ -1,0 +1,198 @@
+// The collector: one call does one step, over three lent slices and a record that goes by value.
+use rules::Answer;
+use rules::Made;
+use rules::Phase;
+use rules::Record;
+ghost use mathlib.Core.Path.{_≡_};
+ghost use mathlib.Core.List.{List};
+ghost use Prim.Native.Nat.{ℕ, _<_, _≤_};
+ghost use lib.ListN.{length};
+ghost use Rattle.rules.specs.Table.{state, outcome};
+ghost use Rattle.rules.specs.Collector.{shadeStep, afterRoots, scanStep, edgeStep, blackStep, appendWhite, appendStep, phaseStep};
+ghost use Rattle.rules.specs.Steps.{step, collecting};
+ghost use Rattle.rules.specs.Facts.{Good, Inside};
+
+// Shades node n, and goes on to a phase.
+fn shade_step(colour: &mut [u8], x: Record, n: u16, then: Phase) -> Made
+    requires { ⌜ (n < length (now colour)) × (x .steps < 20000000) ⌝ }
+    ensures { λ r. ⌜ ((l k : List ℕ) → outcome r l k (now (colour .exit)) ≡ shadeStep (state l k (now (colour .entry)) x) n then) ⌝ }
+{
+    let at = n as usize;
+    if 2 < colour[at] {
+        return Made {
+            answer: Answer::Refused(7, n),
+            rec: x,
+        };
+    }
+    rules::shade_node(colour, n);
+    Made {
+        answer: Answer::Shaded(n),
+        rec: x.moved(then),
+    }
+}
+
+// The phase after Roots i.
+fn after_roots(m: u16, r: u16, i: u16) -> Phase
+    requires { ⌜ (r ≤ 64) × (i ≤ 65) ⌝ }
+    ensures { λ p. ⌜ p ≡ afterRoots m r i ⌝ }
+{
+    if i == r + 1 {
+        return Phase::Scan(0, m);
+    }
+    Phase::Roots(i + 1)
+}
+
+// Scan i, k: Left i where node i is gray, else on to the next node.
+fn scan_step(colour: &[u8], x: Record, i: u16, k: u16) -> Made
+    requires { ⌜ (i < length (now colour)) × ((i < 4096) × ((x .steps < 20000000) × ((0 < x .m) × (0 < k)))) ⌝ }
+    ensures { λ r. ⌜ ((l e : List ℕ) → outcome r l e (now (colour .entry)) ≡ scanStep (state l e (now (colour .entry)) x) i k) ⌝ }
+{
+    let at = i as usize;
+    if 2 < colour[at] {
+        return Made {
+            answer: Answer::Refused(7, i),
+            rec: x,
+        };
+    }
+    if colour[at] == 1 {
+        return Made {
+            answer: Answer::Looked(i),
+            rec: x.moved(Phase::Left(i)),
+        };
+    }
+    if k == 1 {
+        return Made {
+            answer: Answer::Looked(i),
+            rec: x.marked(),
+        };
+    }
+    Made {
+        answer: Answer::Looked(i),
+        rec: x.moved(Phase::Scan((i + 1) % x.m, k - 1)),
+    }
+}
+
+// Left i or Right i: shades e, that edge of node i, and goes on to a phase.
+fn edge_step(colour: &mut [u8], x: Record, i: u16, e: u16, then: Phase) -> Made
+    requires { ⌜ (x .m ≤ length (now colour)) × (x .steps < 20000000) ⌝ }
+    ensures { λ r. ⌜ ((l k : List ℕ) → outcome r l k (now (colour .exit)) ≡ edgeStep (state l k (now (colour .entry)) x) i e then) ⌝ }
+{
+    if rules::bad_edge(x.m, e) {
+        return Made {
+            answer: Answer::Refused(7, i),
+            rec: x,
+        };
+    }
+    shade_step(colour, x, e, then)
+}
+
+// Black i: node i is black, and the scan begins again behind it.
+fn black_step(colour: &mut [u8], x: Record, i: u16) -> Made
+    requires { ⌜ (i < length (now colour)) × ((i < 4096) × ((x .steps < 20000000) × ((0 < x .m) × (x .blackened ≤ 4096)))) ⌝ }
+    ensures { λ r. ⌜ ((l k : List ℕ) → outcome r l k (now (colour .exit)) ≡ blackStep (state l k (now (colour .entry)) x) i) ⌝ }
+{
+    let at = i as usize;
+    colour[at] = 2;
+    Made {
+        answer: Answer::Blackened(i),
+        rec: x.rescan(i),
+    }
+}
+
+// A white node i goes to the end of the free list.
+fn append_white(left: &mut [u16], right: &mut [u16], x: Record, i: u16) -> Made
+    requires { ⌜ (i < length (now left)) × ((i < length (now right)) × ((x .last < length (now left)) × ((x .steps < 20000000) × ((i < 4096) × (x .r ≤ 64))))) ⌝ }
+    ensures { λ r. ⌜ ((c : List ℕ) → outcome r (now (left .exit)) (now (right .exit)) c ≡ appendWhite (state (now (left .entry)) (now (right .entry)) c x) i) ⌝ }
+{
+    let at = i as usize;
+    let end = x.last as usize;
+    if i <= x.r + 1 {
+        return Made {
+            answer: Answer::Refused(7, i),
+            rec: x,
+        };
+    }
+    if i == x.last {
+        return Made {
+            answer: Answer::Refused(7, i),
+            rec: x,
+        };
+    }
+    left[at] = 0;
+    right[at] = 0;
+    left[end] = i;
+    Made {
+        answer: Answer::Appended(i),
+        rec: x.with_last(i).passed(i),
+    }
+}
+
+// Append i: a black node becomes white, a white one goes to the free list.
+fn append_step(left: &mut [u16], right: &mut [u16], colour: &mut [u8], x: Record, i: u16) -> Made
+    requires { ⌜ (i < length (now left)) × ((i < length (now right)) × ((i < length (now colour)) × ((x .last < length (now left)) × ((x .steps < 20000000) × ((i < 4096) × (x .r ≤ 64)))))) ⌝ }
+    ensures { λ r. ⌜ outcome r (now (left .exit)) (now (right .exit)) (now (colour .exit)) ≡ appendStep (state (now (left .entry)) (now (right .entry)) (now (colour .entry)) x) i ⌝ }
+{
+    let at = i as usize;
+    if colour[at] == 2 {
+        colour[at] = 0;
+        return Made {
+            answer: Answer::Whitened(i),
+            rec: x.passed(i),
+        };
+    }
+    if colour[at] == 0 {
+        return append_white(left, right, x, i);
+    }
+    Made {
+        answer: Answer::Refused(7, i),
+        rec: x,
+    }
+}
+
+// The step of a phase, where neither code 1 nor 2 is given.
+pub fn phase_step(
+    left: &mut [u16],
+    right: &mut [u16],
+    colour: &mut [u8],
+    x: Record,
+    phase: Phase,
+) -> Made
+    requires { ⌜ (Good (length (now left)) (length (now right)) (length (now colour)) x) × (Inside (x .m) (x .r) phase) ⌝ }
+    ensures { λ r. ⌜ outcome r (now (left .exit)) (now (right .exit)) (now (colour .exit)) ≡ phaseStep (state (now (left .entry)) (now (right .entry)) (now (colour .entry)) x) phase ⌝ }
+{
+    match phase {
+        Phase::Roots(i) => shade_step(colour, x, i, after_roots(x.m, x.r, i)),
+        Phase::Scan(i, k) => scan_step(colour, x, i, k),
+        Phase::Left(i) => edge_step(
+            colour,
+            x,
+            i,
+            rules::edge(left, right, 0, i),
+            Phase::Right(i),
+        ),
+        Phase::Right(i) => edge_step(
+            colour,
+            x,
+            i,
+            rules::edge(left, right, 1, i),
+            Phase::Black(i),
+        ),
+        Phase::Black(i) => black_step(colour, x, i),
+        Phase::Append(i) => append_step(left, right, colour, x, i),
+    }
+}
+
+// One step of the collector. Refused: 1 and 2 for the sizes and the record, 7 where a value that the step reads is bad.
+pub fn collect(left: &mut [u16], right: &mut [u16], colour: &mut [u8], x: Record) -> Made
+    ensures { λ r. ⌜ outcome r (now (left .exit)) (now (right .exit)) (now (colour .exit)) ≡ step collecting (state (now (left .entry)) (now (right .entry)) (now (colour .entry)) x) ⌝ }
+{
+    let code = rules::check(left.len(), right.len(), colour.len(), x);
+    if code != 0 {
+        return Made {
+            answer: Answer::Refused(code, 0),
+            rec: x,
+        };
+    }
+    let phase = x.phase;
+    phase_step(left, right, colour, x, phase)
+}

@@ -1,0 +1,61 @@
+use Prim.Native.Nat.{_-_}
+use borrow.Author.Needs.{needs}
+use Rattle.rules.specs.Editor.{linkTo}
+use Rattle.editor.proofs.Arrivals.{arrives, stops, leaves}
+use Rattle.editor.proofs.link_to.Statement.{statement}
+use Rattle.editor.proofs.link_to.Tie as tie
+
+walk-requires : tie.Need-walk-requires
+walk-requires c κs = search needs
+
+enum-known-to : tie.Need-enum-known-to
+enum-known-to c = search needs
+
+enum-told : tie.Need-enum-told
+enum-told c = search needs
+
+stood-requires : tie.Need-stood-requires
+stood-requires c κs = search needs
+
+same-length : tie.Need-same-length
+same-length c = search needs
+
+same-length-2 : tie.Need-same-length-2
+same-length-2 c = search needs
+
+returns : tie.Need-returns
+unfolding linkTo
+returns c = λ k. stops _ _ _ _ _ _ (c .before .before .before .walk .ensures) (c .before .enum-told .given .1) (c .stood .ensures)
+
+set-edge-requires : tie.Need-set-edge-requires
+set-edge-requires c κs = search needs
+
+owing-requires : tie.Need-owing-requires
+owing-requires c κs = search needs
+
+same-length-3 : tie.Need-same-length-3
+same-length-3 c = search needs
+
+same-length-4 : tie.Need-same-length-4
+same-length-4 c = search needs
+
+returns-2 : tie.Need-returns-2
+unfolding linkTo
+returns-2 c = λ k. arrives _ _ _ _ _ _ (c .before .before .before .before .before .before .before .before .before .before .before .walk .ensures) (c .before .before .before .before .before .before .before .before .before .to .given .1) (leaves _ (c .before .before .before .before .before .before .before .before .before .before .before .before .before .before .before .before .args .x) _ _ _ _ _ _ (c .before .before .before .before .before .set-edge .ensures k (c .before .before .before .before .before .before .before .before .before .before .before .before .before .before .before .before .args .x)) (c .owing .ensures))
+
+pub link-to-spec : {M : Type 1} → statement M
+link-to-spec =
+    tie.close
+    (tie.spec
+    walk-requires
+    enum-known-to
+    enum-told
+    stood-requires
+    same-length
+    same-length-2
+    returns
+    set-edge-requires
+    owing-requires
+    same-length-3
+    same-length-4
+    returns-2)

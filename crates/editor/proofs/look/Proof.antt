@@ -1,0 +1,54 @@
+use Prim.Native.Nat.{_-_}
+use mathlib.Core.Path.{refl, sym, _∙_}
+use native.Mathlib.Omega.{arith}
+use borrow.Author.Needs.{needs}
+use Rattle.base.proofs.Tests.{zeros}
+use Rattle.rules.specs.Editor.{look}
+use Rattle.rules.proofs.Good.{good}
+use Rattle.rules.proofs.Laws.{unless-done, unless-refused, step-looking}
+use Rattle.rules.proofs.Walks.{slot-below}
+use Rattle.editor.specs.Codes.{lookCode}
+use Rattle.editor.proofs.Arrivals.{arrives, stops}
+use Rattle.editor.proofs.look.Statement.{statement}
+use Rattle.editor.proofs.look.Tie as tie
+
+look-code-requires : tie.Need-look-code-requires
+look-code-requires c κs = search needs
+
+returns : tie.Need-returns
+unfolding look lookCode
+returns c = rw step-looking (unless-refused _ _ _ _ (c .before .look-code .ensures) (c .if1 .taken))
+
+walk-requires : tie.Need-walk-requires
+unfolding lookCode
+walk-requires c κs = let z = zeros _ (sym (c .if1 .left) ∙ c .before .look-code .ensures) in let g = good _ _ _ _ (z .0) in let k = slot-below _ _ (z .1 .0) in omega arith
+
+enum-known-found : tie.Need-enum-known-found
+enum-known-found c = search needs
+
+enum-told : tie.Need-enum-told
+enum-told c = search needs
+
+stood-requires : tie.Need-stood-requires
+stood-requires c κs = search needs
+
+returns-2 : tie.Need-returns-2
+unfolding look lookCode
+returns-2 c = rw step-looking (unless-done _ _ _ _ _ (c .before .before .before .before .before .look-code .ensures) (c .before .before .before .before .if1 .left) (stops _ _ _ _ _ _ (c .before .before .before .walk .ensures) (c .before .enum-told .given .1) (c .stood .ensures)))
+
+returns-3 : tie.Need-returns-3
+unfolding look lookCode
+returns-3 c = rw step-looking (unless-done _ _ _ _ _ (c .before .before .before .before .before .look-code .ensures) (c .before .before .before .before .if1 .left) (arrives _ _ _ _ _ _ (c .before .before .before .walk .ensures) (c .before .found .given .1) refl))
+
+pub look-spec : {M : Type 1} → statement M
+look-spec =
+    tie.close
+    (tie.spec
+    look-code-requires
+    returns
+    walk-requires
+    enum-known-found
+    enum-told
+    stood-requires
+    returns-2
+    returns-3)

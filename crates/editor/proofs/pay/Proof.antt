@@ -1,0 +1,59 @@
+use Prim.Native.Nat.{_-_}
+use mathlib.Core.Path.{subst}
+use lib.ListN.{length}
+use native.Mathlib.Omega.{arith}
+use borrow.Author.Needs.{needs}
+use Rattle.base.proofs.Tests.{tests}
+use Rattle.rules.specs.Editor.{pay}
+use Rattle.rules.specs.Facts.{Owable}
+use Rattle.rules.proofs.Laws.{same}
+use Rattle.editor.proofs.pay.Statement.{statement}
+use Rattle.editor.proofs.pay.Tie as tie
+
+enum-told : tie.Need-enum-told
+enum-told c = search needs
+
+enum-known-owed : tie.Need-enum-known-owed
+enum-known-owed c = search needs
+
+cast-at : tie.Need-cast-at
+cast-at c = search needs
+
+slice-read-if1 : tie.Need-slice-read-if1
+slice-read-if1 c = let h = subst (Owable (length (c .before .before .before .before .before .args .colour .now))) (c .before .before .owed .given .1) (c .before .before .before .before .before .pre) in omega arith
+
+returns : tie.Need-returns
+unfolding pay
+returns c = λ l k. rw (c .before .before .before .owed .given .1) (search (same, tests, needs) depth 12)
+
+shade-node-requires : tie.Need-shade-node-requires
+shade-node-requires c κs = let h = subst (Owable (length (c .before .before .before .before .before .before .before .args .colour .now))) (c .before .before .before .before .owed .given .1) (c .before .before .before .before .before .before .before .pre) in omega arith
+
+paid-requires : tie.Need-paid-requires
+paid-requires c κs = search needs
+
+returns-2 : tie.Need-returns-2
+unfolding pay
+returns-2 c = λ l k. rw (c .enum-told .given .1)
+
+same-length : tie.Need-same-length
+same-length c = search needs
+
+returns-3 : tie.Need-returns-3
+unfolding pay
+returns-3 c = λ l k. rw (c .before .before .before .before .before .before .before .before .owed .given .1) (search (same, tests, needs) depth 12)
+
+pub pay-spec : {M : Type 1} → statement M
+pay-spec =
+    tie.close
+    (tie.spec
+    enum-told
+    enum-known-owed
+    cast-at
+    slice-read-if1
+    returns
+    shade-node-requires
+    paid-requires
+    returns-2
+    same-length
+    returns-3)

@@ -1,0 +1,28 @@
+use Prim.Native.Nat.{_-_}
+use mathlib.Core.Path.{sym, _∙_}
+use borrow.Author.Needs.{needs}
+use Rattle.rules.specs.Editor.{pay, shadeOwed}
+use Rattle.rules.proofs.Good.{good, owable}
+use Rattle.rules.proofs.Laws.{unless-done, unless-refused, step-shading}
+use Rattle.editor.proofs.shade.Statement.{statement}
+use Rattle.editor.proofs.shade.Tie as tie
+
+check-requires : tie.Need-check-requires
+check-requires c κs = search needs
+
+returns : tie.Need-returns
+unfolding shadeOwed
+returns c = rw step-shading (unless-refused _ _ _ _ (c .before .check .ensures) (c .if1 .taken))
+
+pay-requires : tie.Need-pay-requires
+pay-requires c κs = let g = good _ _ _ _ (sym (c .before .if1 .left) ∙ c .before .before .check .ensures) in rw (g .colours) (owable _ _ _ _ (sym (c .before .if1 .left) ∙ c .before .before .check .ensures))
+
+same-length : tie.Need-same-length
+same-length c = search needs
+
+returns-2 : tie.Need-returns-2
+unfolding shadeOwed
+returns-2 c = rw step-shading (unless-done _ _ _ _ _ (c .before .before .before .before .before .check .ensures) (c .before .before .before .before .if1 .left) (c .before .before .pay .ensures _ _))
+
+pub shade-spec : {M : Type 1} → statement M
+shade-spec = tie.close (tie.spec check-requires returns pay-requires same-length returns-2)

@@ -1,0 +1,28 @@
+-- Words of the inner functions' contracts. No promise rests on this file.
+use Rattle.base.specs.Choice.{first}
+use Prim.Native.Nat.{ℕ}
+use mathlib.Core.List.{List, [], _∷_}
+use Rattle.rules.specs.Check.{checkOf}
+use Rattle.rules.specs.Places.{placeCode}
+use Rattle.rules.specs.Editor.{sideCode, owedCode}
+use Rattle.rules.specs.declared.Record.{Record}
+use Rattle.rules.specs.declared.Place.{Place}
+use Rattle.rules.specs.declared.Walk.{Walk}
+use Rattle.rules.specs.declared.Walk.the-variants.{At, Damaged}
+
+-- the refusals that read nothing of the table, in order
+unfoldable pub lookCode : ℕ → ℕ → ℕ → Record → Place → ℕ
+lookCode ll rl cl x p = first (checkOf ll rl cl x ∷ placeCode (x .r) p ∷ [])
+
+unfoldable pub linkCode : ℕ → ℕ → ℕ → Record → Place → ℕ → Place → ℕ
+linkCode ll rl cl x p side q =
+    first (checkOf ll rl cl x ∷ sideCode side ∷ placeCode (x .r) p ∷ placeCode (x .r) q ∷ owedCode (x .owed) ∷ [])
+
+unfoldable pub takeCode : ℕ → ℕ → ℕ → Record → Place → ℕ → ℕ
+takeCode ll rl cl x p side =
+    first (checkOf ll rl cl x ∷ sideCode side ∷ placeCode (x .r) p ∷ owedCode (x .owed) ∷ [])
+
+-- the node where a walk ended, arrived or not
+abbrev pub stood : Walk → ℕ
+stood (At n) = n
+stood (Damaged n) = n

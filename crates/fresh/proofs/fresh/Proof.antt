@@ -1,0 +1,67 @@
+use Prim.Native.Nat.{_-_}
+use mathlib.Core.Path.{_∙_}
+use borrow.Author.Needs.{needs}
+use Rattle.base.proofs.Tests.{facts, each, not-no, not-yes, pick-yes, pick-no}
+use Rattle.rules.specs.Check.{sizeOk}
+use Rattle.rules.specs.Fresh.{fresh}
+use Rattle.fresh.proofs.fresh.Statement.{statement}
+use Rattle.fresh.proofs.fresh.Tie as tie
+
+size-ok-requires : tie.Need-size-ok-requires
+size-ok-requires c κs = search needs
+
+record-of-requires : tie.Need-record-of-requires
+record-of-requires c κs = search needs
+
+returns : tie.Need-returns
+unfolding fresh
+returns c = pick-no _ _ _ _ (not-yes _ (c .before .if1 .taken) ∙ c .before .before .size-ok .ensures) (cc)
+
+cast-nodes : tie.Need-cast-nodes
+unfolding sizeOk
+cast-nodes c = omega (facts, each _ (not-no _ (c .if1 .left) ∙ c .before .size-ok .ensures))
+
+cast-slots : tie.Need-cast-slots
+unfolding sizeOk
+cast-slots c = omega (facts, each _ (not-no _ (c .if1 .left) ∙ c .before .size-ok .ensures))
+
+fill-requires : tie.Need-fill-requires
+unfolding sizeOk
+fill-requires c κs = omega (facts, each _ (not-no _ (c .before .before .before .if1 .left) ∙ c .before .before .before .before .size-ok .ensures))
+
+last-of-requires : tie.Need-last-of-requires
+unfolding sizeOk
+last-of-requires c κs = omega (facts, each _ (not-no _ (c .before .before .before .before .before .before .before .before .before .before .if1 .left) ∙ c .before .before .before .before .before .before .before .before .before .before .before .size-ok .ensures))
+
+record-of-requires-2 : tie.Need-record-of-requires-2
+record-of-requires-2 c κs = search needs
+
+same-length : tie.Need-same-length
+same-length c = search needs
+
+same-length-2 : tie.Need-same-length-2
+same-length-2 c = search needs
+
+same-length-3 : tie.Need-same-length-3
+same-length-3 c = search needs
+
+returns-2 : tie.Need-returns-2
+unfolding fresh
+returns-2 c = pick-yes _ _ _ _ (not-no _ (c .before .before .before .before .before .before .before .before .before .before .before .before .if1 .left) ∙ c .before .before .before .before .before .before .before .before .before .before .before .before .before .size-ok .ensures) (rw (← c .before .before .before .before .before .before .before .before .fill .ensures, ← c .before .last-of .ensures) (cc))
+
+pub fresh-spec : {M : Type 1} → statement M
+fresh-spec =
+    tie.close
+    (tie.spec
+    size-ok-requires
+    record-of-requires
+    returns
+    cast-nodes
+    cast-slots
+    fill-requires
+    last-of-requires
+    record-of-requires-2
+    same-length
+    same-length-2
+    same-length-3
+    returns-2)

@@ -1,0 +1,4 @@
+pub mod Sizes
+pub mod Good
+pub mod Laws
+pub mod Walks

@@ -1,0 +1,79 @@
+use Prim.Native.Nat.{_-_}
+use borrow.Author.Needs.{needs}
+use Rattle.base.proofs.Tests.{tests}
+use Rattle.rules.specs.Check.{phaseOk}
+use Rattle.rules.proofs.phase_ok.Statement.{statement}
+use Rattle.rules.proofs.phase_ok.Tie as tie
+
+enum-known-p : tie.Need-enum-known-p
+enum-known-p c = search needs
+
+add-result : tie.Need-add-result
+add-result c = search needs
+
+enum-known-p-2 : tie.Need-enum-known-p-2
+enum-known-p-2 c = search needs
+
+returns : tie.Need-returns
+unfolding phaseOk
+returns c = rw (c .before .before .p2 .given .1) (search (tests, needs) depth 12)
+
+returns-2 : tie.Need-returns-2
+unfolding phaseOk
+returns-2 c = rw (c .before .before .before .p2 .given .1) (search (tests, needs) depth 12)
+
+enum-known-p-3 : tie.Need-enum-known-p-3
+enum-known-p-3 c = search needs
+
+enum-known-p-4 : tie.Need-enum-known-p-4
+enum-known-p-4 c = search needs
+
+enum-known-p-5 : tie.Need-enum-known-p-5
+enum-known-p-5 c = search needs
+
+enum-known-p-6 : tie.Need-enum-known-p-6
+enum-known-p-6 c = search needs
+
+returns-3 : tie.Need-returns-3
+unfolding phaseOk
+returns-3 c = rw (c .before .p .given .1)
+
+returns-4 : tie.Need-returns-4
+unfolding phaseOk
+returns-4 c = rw (c .before .before .before .p2 .given .1) (search (tests, needs) depth 12)
+
+returns-5 : tie.Need-returns-5
+unfolding phaseOk
+returns-5 c = rw (c .before .p3 .given .1)
+
+returns-6 : tie.Need-returns-6
+unfolding phaseOk
+returns-6 c = rw (c .before .p4 .given .1)
+
+returns-7 : tie.Need-returns-7
+unfolding phaseOk
+returns-7 c = rw (c .before .p5 .given .1)
+
+returns-8 : tie.Need-returns-8
+unfolding phaseOk
+returns-8 c = rw (c .before .p6 .given .1)
+
+pub phase-ok-spec : {M : Type 1} → statement M
+phase-ok-spec =
+    tie.close
+    (tie.spec
+    enum-known-p
+    add-result
+    enum-known-p-2
+    returns
+    returns-2
+    enum-known-p-3
+    enum-known-p-4
+    enum-known-p-5
+    enum-known-p-6
+    returns-3
+    returns-4
+    returns-5
+    returns-6
+    returns-7
+    returns-8)

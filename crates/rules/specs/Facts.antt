@@ -1,0 +1,36 @@
+-- What codes 1 and 2 being 0 tells, as plain facts: what the inner functions rely on. No promise rests on this file.
+use Prim.Native.Nat.{ℕ, _+_, _≤_, _<_}
+use mathlib.Core.Path.{_≡_}
+use Rattle.rules.specs.declared.Record.{Record}
+use Rattle.rules.specs.declared.Phase.{Phase}
+use Rattle.rules.specs.declared.Phase.the-variants.{Roots, Scan, Left, Right, Black, Append}
+use Rattle.rules.specs.declared.Owed.{Owed}
+use Rattle.rules.specs.declared.Owed.the-variants.{Nothing, Node}
+
+-- a position inside its phase
+abbrev pub Inside : ℕ → ℕ → Phase → Type 0
+Inside m r (Roots i) = i ≤ r + 1
+Inside m r (Scan i k) = (i < m) × ((1 ≤ k) × (k ≤ m))
+Inside m r (Left i) = i < m
+Inside m r (Right i) = i < m
+Inside m r (Black i) = i < m
+Inside m r (Append i) = i < m
+
+-- nothing, or a node of the table
+abbrev pub Owable : ℕ → Owed → Type 0
+Owable m Nothing = Unit {0}
+Owable m (Node n) = n < m
+
+pub record Good (ll rl cl : ℕ) (x : Record) : Type 0 where
+  pub m-low : 3 ≤ x .m
+  pub m-high : x .m ≤ 4096
+  pub r-low : 1 ≤ x .r
+  pub r-high : x .r ≤ 64
+  pub room : x .r + 2 ≤ x .m
+  pub lefts : ll ≡ x .m
+  pub rights : rl ≡ x .m
+  pub colours : cl ≡ x .m
+  pub last-low : 1 ≤ x .last
+  pub last-high : x .last < x .m
+  pub blackened : x .blackened ≤ x .m
+  pub steps : x .steps < 20000000

@@ -1,0 +1,53 @@
+-- Fresh. Document 01, "The record", last paragraph.
+use Rattle.base.specs.Choice.{pick}
+use Prim.Native.Nat.{ℕ, zero, suc, _+_, _-_}
+use mathlib.Core.List.{List, [], _∷_, _++_}
+use lib.ListN.{length}
+use lib.Dec.{ltb, eqb}
+use Rattle.rules.specs.Table.{State, Outcome, state, white, FREE}
+use Rattle.rules.specs.Check.{sizeOk}
+use Rattle.rules.specs.declared.Record.{Record}
+use Rattle.rules.specs.declared.Answer.the-variants.{Started, Refused}
+use Rattle.rules.specs.declared.Phase.the-variants.{Roots}
+use Rattle.rules.specs.declared.Owed.the-variants.{Nothing}
+
+-- f 0, f 1, .., f (n - 1)
+unfoldable pub tabulate : (ℕ → ℕ) → ℕ → List ℕ
+tabulate f zero = []
+tabulate f (suc n) = tabulate f n ++ (f n ∷ [])
+
+-- the node after n on the free list of a fresh table; 0 after the last
+unfoldable pub nextFree : ℕ → ℕ → ℕ
+nextFree m n = pick (ltb (n + 1) m) (n + 1) 0
+
+-- "slot edges 0, nodes R + 2 to M − 1 on the free list in rising order"; FREE's "left edge is the first free node (0 if none)"
+unfoldable pub freshLeft : ℕ → ℕ → ℕ → ℕ
+freshLeft m r n = pick (eqb n FREE) (nextFree m (r + 1)) (pick (ltb n (r + 2)) 0 (nextFree m n))
+
+-- every right edge 0
+abbrev pub noEdge : ℕ → ℕ
+noEdge n = 0
+
+-- "every colour white"
+abbrev pub allWhite : ℕ → ℕ
+allWhite n = white
+
+-- "the last free node (1 if the list is empty)"
+unfoldable pub freshLast : ℕ → ℕ → ℕ
+freshLast m r = pick (ltb (r + 2) m) (m - 1) FREE
+
+-- "Roots 0, nothing owed, all counts 0"
+abbrev pub freshRecord : ℕ → ℕ → ℕ → Record
+freshRecord m r last =
+    record { m = m; r = r; phase = Roots 0; owed = Nothing; last = last; steps = 0; cycles = 0; took = 0; blackened = 0; inuse = 0 }
+
+unfoldable pub freshState : ℕ → ℕ → State
+freshState m r =
+    state (tabulate (freshLeft m r) m) (tabulate noEdge m) (tabulate allWhite m) (freshRecord m r (freshLast m r))
+
+-- "Fresh is given M and R". "If refused, the slices keep their contents and the record has M, R, last and every count 0, Roots 0, nothing owed."
+unfoldable pub fresh : ℕ → ℕ → List ℕ → List ℕ → List ℕ → Outcome
+fresh m r l k c =
+    pick (sizeOk m r (length l) (length k) (length c))
+    (record { answer = Started (freshLast m r); state = freshState m r })
+    (record { answer = Refused 1 0; state = state l k c (freshRecord 0 0 0) })

@@ -1,0 +1,9 @@
+pub mod Table
+pub mod Records
+pub mod Check
+pub mod Fresh
+pub mod Places
+pub mod Editor
+pub mod Collector
+pub mod Steps
+pub mod Facts

@@ -1,0 +1,38 @@
+-- Places and their walk; codes 3 and 4. Document 01, "Editor steps".
+use Rattle.base.specs.Choice.{pick, every}
+use Prim.Native.Nat.{ℕ, zero, suc, _+_, _/_, _%_, _^_}
+use mathlib.Core.Bool.{Bool}
+use mathlib.Core.List.{List, [], _∷_}
+use lib.Dec.{ltb, leb, eqb}
+use Rattle.rules.specs.Table.{State, Outcome, refuse, edge, badEdge, NIL}
+use Rattle.rules.specs.declared.Place.{Place}
+use Rattle.rules.specs.declared.Walk.{Walk}
+use Rattle.rules.specs.declared.Walk.the-variants.{At, Damaged}
+
+-- 4: "count above 12, or a set bit at or above the count"
+unfoldable pub turnsOk : Place → Bool
+turnsOk p = every (leb (p .count) 12 ∷ eqb (p .word / 2 ^ p .count) 0 ∷ [])
+
+-- 3: "slot number at least R"; then 4
+unfoldable pub placeCode : ℕ → Place → ℕ
+placeCode r p = pick (ltb (p .slot) r) (pick (turnsOk p) 0 4) 3
+
+-- "The walk starts at the slot's node"; "Slot s is node s + 2."
+abbrev pub start : Place → ℕ
+start p = p .slot + 2
+
+-- "bit j, lowest first, is turn j, 0 left and 1 right"; "once at NIL it stays there and reads nothing more"; 7 with the node whose edge is bad
+unfoldable pub walkFrom : (ℕ → ℕ → ℕ) → ℕ → ℕ → ℕ → ℕ → Walk
+walkFrom edges m zero word n = At n
+walkFrom edges m (suc turns) word n =
+    pick (eqb n NIL) (At NIL)
+    (pick (badEdge m (edges (word % 2) n)) (Damaged n)
+    (walkFrom edges m turns (word / 2) (edges (word % 2) n)))
+
+abbrev pub walk : State → Place → Walk
+walk s p = walkFrom (edge s) (s .rec .m) (p .count) (p .word) (start p)
+
+-- "A step resolves the place first and hands a refusal straight up."
+unfoldable pub arrive : State → Walk → (ℕ → Outcome) → Outcome
+arrive s (At n) go = go n
+arrive s (Damaged n) go = refuse s 7 n

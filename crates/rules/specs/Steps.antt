@@ -1,0 +1,80 @@
+-- One step, of any kind; the answers' numbers. Document 01, "Collector steps" (last paragraph) and "Codes".
+use Rattle.base.specs.Choice.{pick, first}
+use Prim.Native.Nat.{ℕ}
+use mathlib.Core.List.{List, [], _∷_}
+use lib.Dec.{eqb}
+use Rattle.rules.specs.Table.{State, Outcome, refuse}
+use Rattle.rules.specs.Check.{check}
+use Rattle.rules.specs.Editor.{look, link, shadeOwed, take}
+use Rattle.rules.specs.Collector.{collect}
+use Rattle.rules.specs.declared.Place.{Place}
+use Rattle.rules.specs.declared.Step.{Step}
+use Rattle.rules.specs.declared.Answer.{Answer}
+use Rattle.rules.specs.declared.Answer.the-variants.{Started, Named, Linked, Taken, Shaded, Looked, Blackened, Whitened, Appended, Refused}
+
+-- the source place, and the target's
+abbrev pub source : Step → Place
+source a = record { slot = a .slot; count = a .count; word = a .word }
+
+abbrev pub target : Step → Place
+target a = record { slot = a .toslot; count = a .tocount; word = a .toword }
+
+-- "The record kinds are 0 take, 1 link, 2 shade, 3 collect (one step), 4 look; fields that a kind has no use for aren't read."
+-- 10: "kind above 4", after 1 and 2
+unfoldable pub step : Step → State → Outcome
+step a s =
+    pick (eqb (a .kind) 0) (take (source a) (a .side) s)
+    (pick (eqb (a .kind) 1) (link (source a) (a .side) (target a) s)
+    (pick (eqb (a .kind) 2) (shadeOwed s)
+    (pick (eqb (a .kind) 3) (collect s)
+    (pick (eqb (a .kind) 4) (look (source a) s)
+    (refuse s (first (check s ∷ 10 ∷ [])) 0)))))
+
+-- the step that each call makes
+abbrev pub stepOf : ℕ → Place → ℕ → Place → Step
+stepOf kind p side q =
+    record { kind = kind; slot = p .slot; count = p .count; word = p .word; side = side; toslot = q .slot; tocount = q .count; toword = q .word }
+
+abbrev pub nowhere : Place
+nowhere = record { slot = 0; count = 0; word = 0 }
+
+abbrev pub taking : Place → ℕ → Step
+taking p side = stepOf 0 p side nowhere
+
+abbrev pub linking : Place → ℕ → Place → Step
+linking p side q = stepOf 1 p side q
+
+abbrev pub shading : Step
+shading = stepOf 2 nowhere 0 nowhere
+
+abbrev pub collecting : Step
+collecting = stepOf 3 nowhere 0 nowhere
+
+abbrev pub looking : Place → Step
+looking p = stepOf 4 p 0 nowhere
+
+-- "a definition tells you this paper's number and values for each of its cases": the code, 0 where done
+abbrev pub codeOf : Answer → ℕ
+codeOf (Started n) = 0
+codeOf (Named n) = 0
+codeOf (Linked n) = 0
+codeOf (Taken n) = 0
+codeOf (Shaded n) = 0
+codeOf (Looked n) = 0
+codeOf (Blackened n) = 0
+codeOf (Whitened n) = 0
+codeOf (Appended n) = 0
+codeOf (Refused code n) = code
+
+-- and the node
+abbrev pub nodeOf : Answer → ℕ
+nodeOf (Started n) = n
+nodeOf (Named n) = n
+nodeOf (Linked n) = n
+nodeOf (Taken n) = n
+nodeOf (Shaded n) = n
+nodeOf (Looked n) = n
+nodeOf (Blackened n) = n
+nodeOf (Whitened n) = n
+nodeOf (Appended n) = n
+nodeOf (Refused code n) = n

@@ -1,0 +1,101 @@
+-- The node table, and what a call makes of it. Document 01, "The node table".
+use Rattle.base.specs.Choice.{pick}
+use Prim.Native.Nat.{ℕ}
+use mathlib.Core.Bool.{Bool, _||_}
+use mathlib.Core.List.{List}
+use lib.ListN.{getD, set}
+use lib.Dec.{ltb, leb, eqb}
+use Rattle.rules.specs.declared.Record.{Record}
+use Rattle.rules.specs.declared.Answer.{Answer}
+use Rattle.rules.specs.declared.Answer.the-variants.{Refused}
+use Rattle.rules.specs.declared.Made.{Made}
+
+-- "M nodes, numbered from 0, in three lent slices of length M: left edges and right edges [..] and colours". The record travels beside them.
+pub record State : Type 0 where
+  pub left : List ℕ
+  pub right : List ℕ
+  pub colour : List ℕ
+  pub rec : Record
+
+-- what a call answers, and the state that it leaves
+pub record Outcome : Type 0 where
+  pub answer : Answer
+  pub state : State
+
+abbrev pub state : List ℕ → List ℕ → List ℕ → Record → State
+state l r c x = record { left = l; right = r; colour = c; rec = x }
+
+-- what a function hands back, with the three slices as it leaves them
+abbrev pub outcome : Made → List ℕ → List ℕ → List ℕ → Outcome
+outcome d l r c = record { answer = d .answer; state = state l r c (d .rec) }
+
+-- done: the answer, the table of s and the record x
+abbrev pub did : Answer → State → Record → Outcome
+did a s x = record { answer = a; state = state (s .left) (s .right) (s .colour) x }
+
+-- "A refused step [..] changes nothing."
+abbrev pub refuse : State → ℕ → ℕ → Outcome
+refuse s code node = record { answer = Refused code node; state = s }
+
+-- refused with node 0 where the code is not 0
+unfoldable pub unless : ℕ → State → Outcome → Outcome
+unless code s o = pick (eqb code 0) o (refuse s code 0)
+
+-- "0 white, 1 gray, 2 black"
+abbrev pub white : ℕ
+white = 0
+
+abbrev pub gray : ℕ
+gray = 1
+
+abbrev pub black : ℕ
+black = 2
+
+-- "Node 0 is NIL." "Node 1 is FREE."
+abbrev pub NIL : ℕ
+NIL = 0
+
+abbrev pub FREE : ℕ
+FREE = 1
+
+-- "Slot s is node s + 2."; "Nodes 0 to R + 1 are the roots."
+-- "A side is 0 left or 1 right."
+abbrev pub left : ℕ
+left = 0
+
+abbrev pub right : ℕ
+right = 1
+
+-- the edge of node n on a side
+unfoldable pub edgeOf : List ℕ → List ℕ → ℕ → ℕ → ℕ
+edgeOf l r side n = pick (eqb side left) (getD l n 0) (getD r n 0)
+
+abbrev pub edge : State → ℕ → ℕ → ℕ
+edge s side n = edgeOf (s .left) (s .right) side n
+
+-- the edge of node n on a side now points to t
+unfoldable pub withEdge : State → ℕ → ℕ → ℕ → State
+withEdge s side n t =
+    pick (eqb side left) (state (set (s .left) n t) (s .right) (s .colour) (s .rec))
+    (state (s .left) (set (s .right) n t) (s .colour) (s .rec))
+
+abbrev pub colourOf : State → ℕ → ℕ
+colourOf s n = getD (s .colour) n 0
+
+abbrev pub withColour : State → ℕ → ℕ → State
+withColour s n c = state (s .left) (s .right) (set (s .colour) n c) (s .rec)
+
+-- "To shade a node: white becomes gray, gray and black stay."
+unfoldable pub shadeIn : List ℕ → ℕ → List ℕ
+shadeIn c n = pick (eqb (getD c n 0) white) (set c n gray) c
+
+abbrev pub shade : State → ℕ → State
+shade s n = state (s .left) (s .right) (shadeIn (s .colour) n) (s .rec)
+
+-- "Bad: an edge at least M or equal to 1"
+unfoldable pub badEdge : ℕ → ℕ → Bool
+badEdge m e = leb m e || eqb e FREE
+
+-- "a colour above 2"
+abbrev pub badColour : State → ℕ → Bool
+badColour s n = ltb black (colourOf s n)

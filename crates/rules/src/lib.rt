@@ -1,0 +1,423 @@
+// The node table's types. Document 01 as definitions is in specs/; what is here is the record's test, its steps, and the leaves that read and write the table.
+
+ghost use mathlib.Core.Path.{_≡_};
+ghost use Prim.Native.Nat.{ℕ, _+_, _*_, _<_, _≤_};
+ghost use mathlib.Core.List.{List};
+ghost use lib.ListN.{length};
+ghost use Rattle.rules.specs.Table.{state, edgeOf, withEdge, badEdge, shadeIn};
+ghost use Rattle.rules.specs.Records.{withPhase, withOwed, withLast, owing, paid, moved, marked, rescan, oneMore, closed, passed};
+ghost use Rattle.rules.specs.Check.{sizeOk, phaseOk, owedOk, lastOk, bound, countsOk, recordOk, checkOf};
+ghost use Rattle.rules.specs.Steps.{codeOf, nodeOf};
+
+// Where the collector is: six cases, each with its own position.
+pub enum Phase {
+    Roots(u16),
+    Scan(u16, u16),
+    Left(u16),
+    Right(u16),
+    Black(u16),
+    Append(u16),
+}
+
+// The shade owed: nothing, or a node. NIL may be owed.
+pub enum Owed {
+    Nothing,
+    Node(u16),
+}
+
+// What travels beside the table, by value.
+pub struct Record {
+    pub m: u16,
+    pub r: u16,
+    pub phase: Phase,
+    pub owed: Owed,
+    pub last: u16,
+    pub steps: u32,
+    pub cycles: u32,
+    pub took: u32,
+    pub blackened: u16,
+    pub inuse: u16,
+}
+
+// What a call did and to which node, or the code that refuses it, with a node.
+pub enum Answer {
+    Started(u16),
+    Named(u16),
+    Linked(u16),
+    Taken(u16),
+    Shaded(u16),
+    Looked(u16),
+    Blackened(u16),
+    Whitened(u16),
+    Appended(u16),
+    Refused(u8, u16),
+}
+
+// What every call hands back.
+pub struct Made {
+    pub answer: Answer,
+    pub rec: Record,
+}
+
+// A slot, a count of turns and the turns, lowest bit first.
+pub struct Place {
+    pub slot: u32,
+    pub count: u16,
+    pub word: u16,
+}
+
+// Where a walk ends, or the node whose edge is bad.
+pub enum Walk {
+    At(u16),
+    Damaged(u16),
+}
+
+// A step as a kind and seven numbers: 0 take, 1 link, 2 shade, 3 collect, 4 look.
+pub struct Step {
+    pub kind: u16,
+    pub slot: u32,
+    pub count: u16,
+    pub word: u16,
+    pub side: u16,
+    pub toslot: u32,
+    pub tocount: u16,
+    pub toword: u16,
+}
+
+// Code 1: M and R in range, and the three lengths M.
+pub fn size_ok(m: usize, r: usize, lefts: usize, rights: usize, colours: usize) -> bool
+    ensures { λ ok. ⌜ ok ≡ sizeOk m r lefts rights colours ⌝ }
+{
+    if m < 3 {
+        return false;
+    }
+    if 4096 < m {
+        return false;
+    }
+    if r < 1 {
+        return false;
+    }
+    if 64 < r {
+        return false;
+    }
+    if m < r + 2 {
+        return false;
+    }
+    if lefts != m {
+        return false;
+    }
+    if rights != m {
+        return false;
+    }
+    if colours != m {
+        return false;
+    }
+    true
+}
+
+fn phase_ok(m: u16, r: u16, p: Phase) -> bool
+    requires { ⌜ r ≤ 64 ⌝ }
+    ensures { λ ok. ⌜ ok ≡ phaseOk m r p ⌝ }
+{
+    match p {
+        Phase::Roots(i) => i <= r + 1,
+        Phase::Scan(i, k) => {
+            if m <= i {
+                return false;
+            }
+            if k < 1 {
+                return false;
+            }
+            k <= m
+        }
+        Phase::Left(i) => i < m,
+        Phase::Right(i) => i < m,
+        Phase::Black(i) => i < m,
+        Phase::Append(i) => i < m,
+    }
+}
+
+fn owed_ok(m: u16, owed: Owed) -> bool
+    ensures { λ ok. ⌜ ok ≡ owedOk m owed ⌝ }
+{
+    match owed {
+        Owed::Nothing => true,
+        Owed::Node(n) => {
+            if n == 1 {
+                return false;
+            }
+            n < m
+        }
+    }
+}
+
+fn last_ok(m: u16, r: u16, n: u16) -> bool
+    requires { ⌜ r ≤ 64 ⌝ }
+    ensures { λ ok. ⌜ ok ≡ lastOk m r n ⌝ }
+{
+    if n == 1 {
+        return true;
+    }
+    if n < r + 2 {
+        return false;
+    }
+    n < m
+}
+
+// B, the most steps that a cycle may take.
+pub fn bound(m: u16, r: u16) -> u32
+    requires { ⌜ (m ≤ 4096) × (r ≤ 64) ⌝ }
+    ensures { λ b. ⌜ b ≡ bound m r ⌝ }
+{
+    let n = m as u32;
+    n * n + 5 * n + r as u32 + 2
+}
+
+fn counts_ok(x: Record, b: u32) -> bool
+    ensures { λ ok. ⌜ ok ≡ countsOk x b ⌝ }
+{
+    if x.m < x.blackened {
+        return false;
+    }
+    if x.m < x.inuse {
+        return false;
+    }
+    if b <= x.steps {
+        return false;
+    }
+    x.took <= b
+}
+
+fn record_ok(x: Record) -> bool
+    requires { ⌜ (x .m ≤ 4096) × (x .r ≤ 64) ⌝ }
+    ensures { λ ok. ⌜ ok ≡ recordOk x ⌝ }
+{
+    let phase = x.phase;
+    if !phase_ok(x.m, x.r, phase) {
+        return false;
+    }
+    let owed = x.owed;
+    if !owed_ok(x.m, owed) {
+        return false;
+    }
+    if !last_ok(x.m, x.r, x.last) {
+        return false;
+    }
+    counts_ok(x, bound(x.m, x.r))
+}
+
+// Codes 1 and 2, for slices of these lengths; 0 where neither is given.
+pub fn check(lefts: usize, rights: usize, colours: usize, x: Record) -> u8
+    ensures { λ code. ⌜ code ≡ checkOf lefts rights colours x ⌝ }
+{
+    if !size_ok(x.m as usize, x.r as usize, lefts, rights, colours) {
+        return 1;
+    }
+    if !record_ok(x) {
+        return 2;
+    }
+    0
+}
+
+fn one_more(n: u32) -> u32
+    ensures { λ r. ⌜ r ≡ oneMore n ⌝ }
+{
+    if n < 4294967295 {
+        return n + 1;
+    }
+    n
+}
+
+impl Record {
+    fn with_phase(self, phase: Phase) -> Record
+        ensures { λ r. ⌜ r ≡ withPhase self phase ⌝ }
+    {
+        let owed = self.owed;
+        Record {
+            m: self.m,
+            r: self.r,
+            phase,
+            owed,
+            last: self.last,
+            steps: self.steps,
+            cycles: self.cycles,
+            took: self.took,
+            blackened: self.blackened,
+            inuse: self.inuse,
+        }
+    }
+
+    fn with_owed(self, owed: Owed) -> Record
+        ensures { λ r. ⌜ r ≡ withOwed self owed ⌝ }
+    {
+        let phase = self.phase;
+        Record {
+            m: self.m,
+            r: self.r,
+            phase,
+            owed,
+            last: self.last,
+            steps: self.steps,
+            cycles: self.cycles,
+            took: self.took,
+            blackened: self.blackened,
+            inuse: self.inuse,
+        }
+    }
+
+    // The shade of node n is owed.
+    pub fn owing(self, n: u16) -> Record
+        ensures { λ r. ⌜ r ≡ owing self n ⌝ }
+    {
+        self.with_owed(Owed::Node(n))
+    }
+
+    // The shade is paid: nothing is owed.
+    pub fn paid(self) -> Record
+        ensures { λ r. ⌜ r ≡ paid self ⌝ }
+    {
+        self.with_owed(Owed::Nothing)
+    }
+
+    // The free list ends at n.
+    pub fn with_last(mut self, n: u16) -> Record
+        ensures { λ r. ⌜ r ≡ withLast self n ⌝ }
+    {
+        self.last = n;
+        self
+    }
+
+    // A collector step is counted, and the phase moves.
+    pub fn moved(mut self, phase: Phase) -> Record
+        requires { ⌜ self .steps < 20000000 ⌝ }
+        ensures { λ r. ⌜ r ≡ moved self phase ⌝ }
+    {
+        self.steps = self.steps + 1;
+        self.with_phase(phase)
+    }
+
+    // The step that ends the marking: nodes in use is set.
+    pub fn marked(mut self) -> Record
+        requires { ⌜ self .steps < 20000000 ⌝ }
+        ensures { λ r. ⌜ r ≡ marked self ⌝ }
+    {
+        self.inuse = self.blackened;
+        self.moved(Phase::Append(0))
+    }
+
+    // The step that blackens node i: the scan begins again behind it.
+    pub fn rescan(mut self, i: u16) -> Record
+        requires { ⌜ (self .steps < 20000000) × ((self .blackened ≤ 4096) × ((i < 4096) × (0 < self .m))) ⌝ }
+        ensures { λ r. ⌜ r ≡ rescan self i ⌝ }
+    {
+        self.blackened = self.blackened + 1;
+        self.moved(Phase::Scan((i + 1) % self.m, self.m))
+    }
+
+    // The step that completes the cycle.
+    fn closed(mut self) -> Record
+        requires { ⌜ self .steps < 20000000 ⌝ }
+        ensures { λ r. ⌜ r ≡ closed self ⌝ }
+    {
+        self.took = self.steps + 1;
+        self.steps = 0;
+        self.cycles = one_more(self.cycles);
+        self.blackened = 0;
+        self.with_phase(Phase::Roots(0))
+    }
+
+    // After Append i.
+    pub fn passed(self, i: u16) -> Record
+        requires { ⌜ (self .steps < 20000000) × (i < 4096) ⌝ }
+        ensures { λ r. ⌜ r ≡ passed self i ⌝ }
+    {
+        if i + 1 == self.m {
+            return self.closed();
+        }
+        self.moved(Phase::Append(i + 1))
+    }
+}
+
+impl Answer {
+    // Document 01's code: 0 where done.
+    pub fn code(self) -> u8
+        ensures { λ c. ⌜ c ≡ codeOf self ⌝ }
+    {
+        match self {
+            Answer::Started(_) => 0,
+            Answer::Named(_) => 0,
+            Answer::Linked(_) => 0,
+            Answer::Taken(_) => 0,
+            Answer::Shaded(_) => 0,
+            Answer::Looked(_) => 0,
+            Answer::Blackened(_) => 0,
+            Answer::Whitened(_) => 0,
+            Answer::Appended(_) => 0,
+            Answer::Refused(code, _) => code,
+        }
+    }
+
+    // The node answered.
+    pub fn node(self) -> u16
+        ensures { λ n. ⌜ n ≡ nodeOf self ⌝ }
+    {
+        match self {
+            Answer::Started(n)
+            | Answer::Named(n)
+            | Answer::Linked(n)
+            | Answer::Taken(n)
+            | Answer::Shaded(n)
+            | Answer::Looked(n)
+            | Answer::Blackened(n)
+            | Answer::Whitened(n)
+            | Answer::Appended(n)
+            | Answer::Refused(_, n) => n,
+        }
+    }
+}
+
+// Whether an edge is bad: at least M, or to FREE.
+pub fn bad_edge(m: u16, e: u16) -> bool
+    ensures { λ b. ⌜ b ≡ badEdge m e ⌝ }
+{
+    if m <= e {
+        return true;
+    }
+    e == 1
+}
+
+// The edge of node n on a side.
+pub fn edge(left: &[u16], right: &[u16], side: u16, n: u16) -> u16
+    requires { ⌜ (n < length (now left)) × (n < length (now right)) ⌝ }
+    ensures { λ e. ⌜ e ≡ edgeOf (now (left .entry)) (now (right .entry)) side n ⌝ }
+{
+    let at = n as usize;
+    if side == 0 {
+        return left[at];
+    }
+    right[at]
+}
+
+// The edge of node n on a side now points to t.
+pub fn set_edge(left: &mut [u16], right: &mut [u16], side: u16, n: u16, t: u16)
+    requires { ⌜ (n < length (now left)) × (n < length (now right)) ⌝ }
+    ensures { λ _. ⌜ ((c : List ℕ) (x : Record) → state (now (left .exit)) (now (right .exit)) c x ≡ withEdge (state (now (left .entry)) (now (right .entry)) c x) side n t) ⌝ }
+{
+    let at = n as usize;
+    if side == 0 {
+        left[at] = t;
+        return;
+    }
+    right[at] = t;
+}
+
+// To shade a node: white becomes gray, gray and black stay.
+pub fn shade_node(colour: &mut [u8], n: u16)
+    requires { ⌜ n < length (now colour) ⌝ }
+    ensures { λ _. ⌜ now (colour .exit) ≡ shadeIn (now (colour .entry)) n ⌝ }
+{
+    let at = n as usize;
+    if colour[at] == 0 {
+        colour[at] = 1;
+    }
+}
