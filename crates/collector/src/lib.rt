@@ -123,7 +123,7 @@ fn append_white(left: &mut [u16], right: &mut [u16], x: Record, i: u16) -> Made
     left[end] = i;
     Made {
         answer: Answer::Appended(i),
-        rec: x.with_last(i).passed(i),
+        rec: x.with_last(i).after_append(i),
     }
 }
 
@@ -137,7 +137,7 @@ fn append_step(left: &mut [u16], right: &mut [u16], colour: &mut [u8], x: Record
         colour[at] = 0;
         return Made {
             answer: Answer::Whitened(i),
-            rec: x.passed(i),
+            rec: x.after_append(i),
         };
     }
     if colour[at] == 0 {
@@ -150,7 +150,7 @@ fn append_step(left: &mut [u16], right: &mut [u16], colour: &mut [u8], x: Record
 }
 
 // The step of a phase, where neither code 1 nor 2 is given.
-pub fn phase_step(
+fn phase_step(
     left: &mut [u16],
     right: &mut [u16],
     colour: &mut [u8],

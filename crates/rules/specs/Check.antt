@@ -1,8 +1,8 @@
 -- Codes 1 and 2: the sizes and the record's test. Document 01, "The node table", "The record" and "Codes".
-use Rattle.base.specs.Choice.{pick, every, first}
+use Rattle.base.specs.Choice.{pick, every}
 use Prim.Native.Nat.{ℕ, _+_, _*_}
 use mathlib.Core.Bool.{Bool, true, _||_, not}
-use mathlib.Core.List.{List, [], _∷_}
+use mathlib.Core.List.{[], _∷_}
 use lib.ListN.{length}
 use lib.Dec.{ltb, leb, eqb}
 use Rattle.rules.specs.Table.{State, FREE}
@@ -12,12 +12,12 @@ use Rattle.rules.specs.declared.Phase.the-variants.{Roots, Scan, Left, R
 use Rattle.rules.specs.declared.Owed.{Owed}
 use Rattle.rules.specs.declared.Owed.the-variants.{Nothing, Node}
 
--- "M is 3 to 4,096. R slots: 1 to 64, and R + 2 is at most M."; "1 size: M or R out of range, or the three lengths and the record's M differ"
+-- "M is 3 to 4,096. R slots: 1 to 64, and R + 2 is at most M." 1: "M or R out of range, or the three lengths and the record's M differ"
 unfoldable pub sizeOk : ℕ → ℕ → ℕ → ℕ → ℕ → Bool
 sizeOk m r lefts rights colours =
     every (leb 3 m ∷ leb m 4096 ∷ leb 1 r ∷ leb r 64 ∷ leb (r + 2) m ∷ eqb lefts m ∷ eqb rights m ∷ eqb colours m ∷ [])
 
--- "Roots i (i up to R + 1), Scan i with k (i below M, k from 1 to M), Left i, Right i, Black i, Append i (i below M)"
+-- 2: "a position outside its phase". "Roots i (i up to R + 1), Scan i with k (i below M, k from 1 to M), Left i, Right i, Black i, Append i (i below M)"
 unfoldable pub phaseOk : ℕ → ℕ → Phase → Bool
 phaseOk m r (Roots i) = leb i (r + 1)
 phaseOk m r (Scan i k) = every (ltb i m ∷ leb 1 k ∷ leb k m ∷ [])

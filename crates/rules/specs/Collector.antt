@@ -1,10 +1,10 @@
 -- The collector's step. Document 01, "Collector steps".
 use Rattle.base.specs.Choice.{pick}
 use Prim.Native.Nat.{ℕ, _+_, _-_}
-use mathlib.Core.Bool.{Bool, _||_}
-use lib.Dec.{leb, eqb}
-use Rattle.rules.specs.Table.{State, Outcome, did, refuse, unless, white, gray, black, left, right, edge, withEdge, colourOf, withColour, shade, badEdge, badColour}
-use Rattle.rules.specs.Records.{withLast, moved, marked, next, rescan, passed}
+use mathlib.Core.Bool.{_||_}
+use lib.Dec.{eqb}
+use Rattle.rules.specs.Table.{State, Outcome, did, refuse, unless, white, gray, black, isRoot, left, right, edge, withEdge, colourOf, withColour, shade, badEdge, badColour}
+use Rattle.rules.specs.Records.{withLast, moved, marked, next, rescan, afterAppend}
 use Rattle.rules.specs.Check.{check}
 use Rattle.rules.specs.declared.Phase.{Phase}
 use Rattle.rules.specs.declared.Phase.the-variants.{Roots, Scan, Left, Right, Black, Append}
@@ -31,7 +31,7 @@ scanStep s i k =
 unfoldable pub edgeStep : State → ℕ → ℕ → Phase → Outcome
 edgeStep s i e then = pick (badEdge (s .rec .m) e) (refuse s 7 i) (shadeStep s e then)
 
--- "Black i: make node i black, add one to nodes blackened, then Scan at the next i (modulo M) with k = M."
+-- "Black reads nothing." "Black i: make node i black, add one to nodes blackened, then Scan at the next i (modulo M) with k = M."
 unfoldable pub blackStep : State → ℕ → Outcome
 blackStep s i = did (Blackened i) (withColour s i black) (rescan (s .rec) i)
 
@@ -39,16 +39,16 @@ blackStep s i = did (Blackened i) (withColour s i black) (rescan (s .rec) i)
 unfoldable pub append : State → ℕ → State
 append s i = withEdge (withEdge (withEdge s left i 0) right i 0) left (s .rec .last) i
 
--- "in Append, a gray node, a white root, or a white node that is last"; "last becomes i, and its colour stays white"
+-- bad: "a white root, or a white node that is last"; "last becomes i, and its colour stays white"
 unfoldable pub appendWhite : State → ℕ → Outcome
 appendWhite s i =
-    pick (leb i (s .rec .r + 1) || eqb i (s .rec .last)) (refuse s 7 i)
-    (did (Appended i) (append s i) (passed (withLast (s .rec) i) i))
+    pick (isRoot (s .rec .r) i || eqb i (s .rec .last)) (refuse s 7 i)
+    (did (Appended i) (append s i) (afterAppend (withLast (s .rec) i) i))
 
--- "Append i: a black node becomes white."
+-- "Append i: a black node becomes white."; bad: "a colour above 2; in Append, a gray node"
 unfoldable pub appendStep : State → ℕ → Outcome
 appendStep s i =
-    pick (eqb (colourOf s i) black) (did (Whitened i) (withColour s i white) (passed (s .rec) i))
+    pick (eqb (colourOf s i) black) (did (Whitened i) (withColour s i white) (afterAppend (s .rec) i))
     (pick (eqb (colourOf s i) white) (appendWhite s i) (refuse s 7 i))
 
 -- "One call does one of these."

@@ -1,8 +1,10 @@
--- Look, Link, Shade and Take. Document 01, "Editor steps", and the order of the codes.
+-- Look, Link, Shade and Take. Document 01, "Editor steps" and "Codes":
+-- "Order: 1, 2, 10, then 3 and 4 for the first place, 3 and 4 for the second, 5 or 6, then 7 and 8 along the first walk, 7 along the second, then 7 for
+-- a bad left edge of FREE, 9, 7 for the rest." "Values that a step needs are all read before it writes, in the order told".
 use Rattle.base.specs.Choice.{pick, every, first}
 use Prim.Native.Nat.{ℕ, _+_}
 use mathlib.Core.Bool.{Bool, _||_}
-use mathlib.Core.List.{List, [], _∷_}
+use mathlib.Core.List.{[], _∷_}
 use lib.Dec.{leb, eqb}
 use Rattle.rules.specs.Table.{State, Outcome, did, refuse, unless, NIL, FREE, left, edge, withEdge, shade, badColour}
 use Rattle.rules.specs.Records.{owing, paid, withLast}
@@ -55,7 +57,8 @@ shadeOwed s = unless (check s) s (pay s (s .rec .owed))
 unfoldable pub badFree : ℕ → ℕ → ℕ → Bool
 badFree m r e = leb m e || every (leb 1 e ∷ leb e (r + 1) ∷ [])
 
--- "The edge points to f; FREE's left edge becomes g; f's left edge becomes 0; f is shaded"
+-- "The edge points to f; FREE's left edge becomes g; f's left edge becomes 0; f is shaded"; "Writes follow the order told too: where a damaged table
+-- lets the source be f itself, f's left edge ends as 0."
 unfoldable pub relink : State → ℕ → ℕ → ℕ → ℕ → State
 relink s n side f g =
     let pointed = withEdge s side n f in
@@ -63,7 +66,7 @@ relink s n side f g =
     let cut = withEdge freed left f 0 in
     shade cut f
 
--- "f's left edge, f's colour, then g's colour"; "g is shaded unless it is 0; if g is 0, last becomes 1. [..] Answers f."
+-- "for Take after FREE's left edge that is f's left edge, f's colour, then g's colour"; "g is shaded unless it is 0; if g is 0, last becomes 1. Nothing is owed. Answers f."
 unfoldable pub takeNext : State → ℕ → ℕ → ℕ → ℕ → Outcome
 takeNext s n side f g =
     pick (badFree (s .rec .m) (s .rec .r) g) (refuse s 7 f)

@@ -47,7 +47,7 @@ freshState m r =
 
 -- "Fresh is given M and R". "If refused, the slices keep their contents and the record has M, R, last and every count 0, Roots 0, nothing owed."
 unfoldable pub fresh : ℕ → ℕ → List ℕ → List ℕ → List ℕ → Outcome
-fresh m r l k c =
-    pick (sizeOk m r (length l) (length k) (length c))
+fresh m r lefts rights colours =
+    pick (sizeOk m r (length lefts) (length rights) (length colours))
     (record { answer = Started (freshLast m r); state = freshState m r })
-    (record { answer = Refused 1 0; state = state l k c (freshRecord 0 0 0) })
+    (record { answer = Refused 1 0; state = state lefts rights colours (freshRecord 0 0 0) })

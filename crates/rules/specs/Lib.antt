@@ -6,4 +6,5 @@ pub mod Places
 pub mod Editor
 pub mod Collector
 pub mod Steps
+pub mod Schedules
 pub mod Facts

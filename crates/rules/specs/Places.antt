@@ -2,7 +2,7 @@
 use Rattle.base.specs.Choice.{pick, every}
 use Prim.Native.Nat.{ℕ, zero, suc, _+_, _/_, _%_, _^_}
 use mathlib.Core.Bool.{Bool}
-use mathlib.Core.List.{List, [], _∷_}
+use mathlib.Core.List.{[], _∷_}
 use lib.Dec.{ltb, leb, eqb}
 use Rattle.rules.specs.Table.{State, Outcome, refuse, edge, badEdge, NIL}
 use Rattle.rules.specs.declared.Place.{Place}

@@ -1,4 +1,4 @@
--- The record's steps. Document 01, "The record" and "Collector steps".
+-- The record's steps. Document 01, "The record", "Editor steps" and "Collector steps".
 use Rattle.base.specs.Choice.{pick}
 use Prim.Native.Nat.{ℕ, _+_, _%_}
 use lib.Dec.{ltb, eqb}
@@ -8,7 +8,6 @@ use Rattle.rules.specs.declared.Phase.the-variants.{Roots, Scan, Append}
 use Rattle.rules.specs.declared.Owed.{Owed}
 use Rattle.rules.specs.declared.Owed.the-variants.{Nothing, Node}
 
--- ---- one field, or the counts, changed
 abbrev pub withPhase : Record → Phase → Record
 withPhase x p =
     record { m = x .m; r = x .r; phase = p; owed = x .owed; last = x .last; steps = x .steps; cycles = x .cycles; took = x .took; blackened = x .blackened; inuse = x .inuse }
@@ -21,10 +20,6 @@ abbrev pub withLast : Record → ℕ → Record
 withLast x n =
     record { m = x .m; r = x .r; phase = x .phase; owed = x .owed; last = n; steps = x .steps; cycles = x .cycles; took = x .took; blackened = x .blackened; inuse = x .inuse }
 
-abbrev pub withCounts : Record → ℕ → ℕ → ℕ → ℕ → ℕ → Record
-withCounts x steps cycles took blackened inuse =
-    record { m = x .m; r = x .r; phase = x .phase; owed = x .owed; last = x .last; steps = steps; cycles = cycles; took = took; blackened = blackened; inuse = inuse }
-
 -- "the target's shade is owed"
 abbrev pub owing : Record → ℕ → Record
 owing x n = withOwed x (Node n)
@@ -35,11 +30,13 @@ paid x = withOwed x Nothing
 
 -- "Every collector step that is done counts one." The phase is p now.
 abbrev pub moved : Record → Phase → Record
-moved x p = withPhase (withCounts x (x .steps + 1) (x .cycles) (x .took) (x .blackened) (x .inuse)) p
+moved x p =
+    record { m = x .m; r = x .r; phase = p; owed = x .owed; last = x .last; steps = x .steps + 1; cycles = x .cycles; took = x .took; blackened = x .blackened; inuse = x .inuse }
 
--- "Append 0, and nodes in use is set", to "the number of nodes blackened in the last completed marking"
+-- "Append 0, and nodes in use is set": it "is the number of nodes blackened in the last completed marking"
 abbrev pub marked : Record → Record
-marked x = moved (withCounts x (x .steps) (x .cycles) (x .took) (x .blackened) (x .blackened)) (Append 0)
+marked x =
+    record { m = x .m; r = x .r; phase = Append 0; owed = x .owed; last = x .last; steps = x .steps + 1; cycles = x .cycles; took = x .took; blackened = x .blackened; inuse = x .blackened }
 
 -- "the next i (modulo M)"
 abbrev pub next : Record → ℕ → ℕ
@@ -47,16 +44,18 @@ next x i = (i + 1) % x .m
 
 -- "add one to nodes blackened, then Scan at the next i (modulo M) with k = M"
 abbrev pub rescan : Record → ℕ → Record
-rescan x i = moved (withCounts x (x .steps) (x .cycles) (x .took) (x .blackened + 1) (x .inuse)) (Scan (next x i) (x .m))
+rescan x i =
+    record { m = x .m; r = x .r; phase = Scan (next x i) (x .m); owed = x .owed; last = x .last; steps = x .steps + 1; cycles = x .cycles; took = x .took; blackened = x .blackened + 1; inuse = x .inuse }
 
 -- "cycles completed (32 bits, stays at its largest value)"
 unfoldable pub oneMore : ℕ → ℕ
 oneMore n = pick (ltb n 4294967295) (n + 1) n
 
--- "the cycle is complete: the steps become the last cycle's count, steps and blackened become 0, Roots 0"
+-- "the cycle is complete: the steps become the last cycle's count, steps and blackened become 0, Roots 0"; this step is counted
 abbrev pub closed : Record → Record
-closed x = withPhase (withCounts x 0 (oneMore (x .cycles)) (x .steps + 1) 0 (x .inuse)) (Roots 0)
+closed x =
+    record { m = x .m; r = x .r; phase = Roots 0; owed = x .owed; last = x .last; steps = 0; cycles = oneMore (x .cycles); took = x .steps + 1; blackened = 0; inuse = x .inuse }
 
--- "After i = M − 1 the cycle is complete", else Append at the next i
-unfoldable pub passed : Record → ℕ → Record
-passed x i = pick (eqb (i + 1) (x .m)) (closed x) (moved x (Append (i + 1)))
+-- "After i = M − 1 the cycle is complete", before it Append at the next i
+unfoldable pub afterAppend : Record → ℕ → Record
+afterAppend x i = pick (eqb (i + 1) (x .m)) (closed x) (moved x (Append (i + 1)))

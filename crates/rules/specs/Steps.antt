@@ -30,28 +30,34 @@ step a s =
     (pick (eqb (a .kind) 4) (look (source a) s)
     (refuse s (first (check s ∷ 10 ∷ [])) 0)))))
 
+-- a run: each step is given what the one before left, refused ones too
+unfoldable pub run : List Step → State → State
+run [] s = s
+run (a ∷ rest) s = run rest (step a s .state)
+
 -- the step that each call makes
 abbrev pub stepOf : ℕ → Place → ℕ → Place → Step
 stepOf kind p side q =
     record { kind = kind; slot = p .slot; count = p .count; word = p .word; side = side; toslot = q .slot; tocount = q .count; toword = q .word }
 
-abbrev pub nowhere : Place
-nowhere = record { slot = 0; count = 0; word = 0 }
+-- the fields that a kind has no use for
+abbrev pub unread : Place
+unread = record { slot = 0; count = 0; word = 0 }
 
 abbrev pub taking : Place → ℕ → Step
-taking p side = stepOf 0 p side nowhere
+taking p side = stepOf 0 p side unread
 
 abbrev pub linking : Place → ℕ → Place → Step
 linking p side q = stepOf 1 p side q
 
 abbrev pub shading : Step
-shading = stepOf 2 nowhere 0 nowhere
+shading = stepOf 2 unread 0 unread
 
 abbrev pub collecting : Step
-collecting = stepOf 3 nowhere 0 nowhere
+collecting = stepOf 3 unread 0 unread
 
 abbrev pub looking : Place → Step
-looking p = stepOf 4 p 0 nowhere
+looking p = stepOf 4 p 0 unread
 
 -- "a definition tells you this paper's number and values for each of its cases": the code, 0 where done
 abbrev pub codeOf : Answer → ℕ

@@ -1,6 +1,6 @@
--- The node table, and what a call makes of it. Document 01, "The node table".
+-- The node table, and what a call makes of it. Document 01, "The node table" and "Codes".
 use Rattle.base.specs.Choice.{pick}
-use Prim.Native.Nat.{ℕ}
+use Prim.Native.Nat.{ℕ, _+_}
 use mathlib.Core.Bool.{Bool, _||_}
 use mathlib.Core.List.{List}
 use lib.ListN.{getD, set}
@@ -10,7 +10,7 @@ use Rattle.rules.specs.declared.Answer.{Answer}
 use Rattle.rules.specs.declared.Answer.the-variants.{Refused}
 use Rattle.rules.specs.declared.Made.{Made}
 
--- "M nodes, numbered from 0, in three lent slices of length M: left edges and right edges [..] and colours". The record travels beside them.
+-- "M nodes, numbered from 0, in three lent slices of length M: left edges and right edges, as 16-bit numbers, and colours, as bytes"; the record beside them
 pub record State : Type 0 where
   pub left : List ℕ
   pub right : List ℕ
@@ -33,11 +33,11 @@ outcome d l r c = record { answer = d .answer; state = state l r c (d .rec) }
 abbrev pub did : Answer → State → Record → Outcome
 did a s x = record { answer = a; state = state (s .left) (s .right) (s .colour) x }
 
--- "A refused step [..] changes nothing."
+-- "A refused step answers node 0 (7 answers the node) and changes nothing."
 abbrev pub refuse : State → ℕ → ℕ → Outcome
 refuse s code node = record { answer = Refused code node; state = s }
 
--- refused with node 0 where the code is not 0
+-- refused with node 0, unless the code is 0
 unfoldable pub unless : ℕ → State → Outcome → Outcome
 unless code s o = pick (eqb code 0) o (refuse s code 0)
 
@@ -51,14 +51,18 @@ gray = 1
 abbrev pub black : ℕ
 black = 2
 
--- "Node 0 is NIL." "Node 1 is FREE."
+-- "Node 0 is NIL."
 abbrev pub NIL : ℕ
 NIL = 0
 
+-- "Node 1 is FREE."
 abbrev pub FREE : ℕ
 FREE = 1
 
--- "Slot s is node s + 2."; "Nodes 0 to R + 1 are the roots."
+-- "Nodes 0 to R + 1 are the roots."
+abbrev pub isRoot : ℕ → ℕ → Bool
+isRoot r n = leb n (r + 1)
+
 -- "A side is 0 left or 1 right."
 abbrev pub left : ℕ
 left = 0
@@ -68,7 +72,7 @@ right = 1
 
 -- the edge of node n on a side
 unfoldable pub edgeOf : List ℕ → List ℕ → ℕ → ℕ → ℕ
-edgeOf l r side n = pick (eqb side left) (getD l n 0) (getD r n 0)
+edgeOf lefts rights side n = pick (eqb side left) (getD lefts n 0) (getD rights n 0)
 
 abbrev pub edge : State → ℕ → ℕ → ℕ
 edge s side n = edgeOf (s .left) (s .right) side n
@@ -87,7 +91,7 @@ withColour s n c = state (s .left) (s .right) (set (s .colour) n c) (s .rec)
 
 -- "To shade a node: white becomes gray, gray and black stay."
 unfoldable pub shadeIn : List ℕ → ℕ → List ℕ
-shadeIn c n = pick (eqb (getD c n 0) white) (set c n gray) c
+shadeIn colours n = pick (eqb (getD colours n 0) white) (set colours n gray) colours
 
 abbrev pub shade : State → ℕ → State
 shade s n = state (s .left) (s .right) (shadeIn (s .colour) n) (s .rec)

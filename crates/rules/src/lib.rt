@@ -5,7 +5,7 @@ ghost use Prim.Native.Nat.{ℕ, _+_, _*_, _<_, _≤_};
 ghost use mathlib.Core.List.{List};
 ghost use lib.ListN.{length};
 ghost use Rattle.rules.specs.Table.{state, edgeOf, withEdge, badEdge, shadeIn};
-ghost use Rattle.rules.specs.Records.{withPhase, withOwed, withLast, owing, paid, moved, marked, rescan, oneMore, closed, passed};
+ghost use Rattle.rules.specs.Records.{withPhase, withOwed, withLast, owing, paid, moved, marked, rescan, oneMore, closed, afterAppend};
 ghost use Rattle.rules.specs.Check.{sizeOk, phaseOk, owedOk, lastOk, bound, countsOk, recordOk, checkOf};
 ghost use Rattle.rules.specs.Steps.{codeOf, nodeOf};
 
@@ -82,6 +82,13 @@ pub struct Step {
     pub toslot: u32,
     pub tocount: u16,
     pub toword: u16,
+}
+
+// What a run of steps hands back: how many were done, the code that ended it or 0, and the record.
+pub struct Ran {
+    pub done: usize,
+    pub code: u8,
+    pub rec: Record,
 }
 
 // Code 1: M and R in range, and the three lengths M.
@@ -327,9 +334,9 @@ impl Record {
     }
 
     // After Append i.
-    pub fn passed(self, i: u16) -> Record
+    pub fn after_append(self, i: u16) -> Record
         requires { ⌜ (self .steps < 20000000) × (i < 4096) ⌝ }
-        ensures { λ r. ⌜ r ≡ passed self i ⌝ }
+        ensures { λ r. ⌜ r ≡ afterAppend self i ⌝ }
     {
         if i + 1 == self.m {
             return self.closed();

@@ -12,8 +12,8 @@ slice-read-if1 c = search needs
 slice-write-colour : tie.Need-slice-write-colour
 slice-write-colour c = search needs
 
-passed-requires : tie.Need-passed-requires
-passed-requires c κs = search needs
+after-append-requires : tie.Need-after-append-requires
+after-append-requires c κs = search needs
 
 same-length : tie.Need-same-length
 same-length c = search needs
@@ -48,7 +48,7 @@ append-step-spec =
     (tie.spec
     slice-read-if1
     slice-write-colour
-    passed-requires
+    after-append-requires
     same-length
     returns
     slice-read-if2

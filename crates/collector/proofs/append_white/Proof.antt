@@ -44,8 +44,8 @@ slice-write-left-2 c = search needs
 with-last-requires : tie.Need-with-last-requires
 with-last-requires c κs = search needs
 
-passed-requires : tie.Need-passed-requires
-passed-requires c κs = rw (c .with-last .ensures) (omega (arith, c .before .before .before .before .before .before .before .before .pre))
+after-append-requires : tie.Need-after-append-requires
+after-append-requires c κs = rw (c .with-last .ensures) (omega (arith, c .before .before .before .before .before .before .before .before .pre))
 
 same-length : tie.Need-same-length
 same-length c = search needs
@@ -72,7 +72,7 @@ append-white-spec =
     mul-left-2
     slice-write-left-2
     with-last-requires
-    passed-requires
+    after-append-requires
     same-length
     same-length-2
     returns-3)

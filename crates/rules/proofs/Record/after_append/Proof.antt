@@ -1,9 +1,9 @@
 use Prim.Native.Nat.{_-_}
 use borrow.Author.Needs.{needs}
 use Rattle.base.proofs.Tests.{tests}
-use Rattle.rules.specs.Records.{passed}
-use Rattle.rules.proofs.Record.passed.Statement.{statement}
-use Rattle.rules.proofs.Record.passed.Tie as tie
+use Rattle.rules.specs.Records.{afterAppend}
+use Rattle.rules.proofs.Record.after_append.Statement.{statement}
+use Rattle.rules.proofs.Record.after_append.Tie as tie
 
 add-if1 : tie.Need-add-if1
 add-if1 c = search needs
@@ -12,7 +12,7 @@ closed-requires : tie.Need-closed-requires
 closed-requires c κs = search needs
 
 returns : tie.Need-returns
-unfolding passed
+unfolding afterAppend
 returns c = search (tests, needs) depth 12
 
 add-t3 : tie.Need-add-t3
@@ -22,8 +22,9 @@ moved-requires : tie.Need-moved-requires
 moved-requires c κs = search needs
 
 returns-2 : tie.Need-returns-2
-unfolding passed
+unfolding afterAppend
 returns-2 c = search (tests, needs) depth 12
 
-pub passed-spec : {M : Type 1} → statement M
-passed-spec = tie.close (tie.spec add-if1 closed-requires returns add-t3 moved-requires returns-2)
+pub after-append-spec : {M : Type 1} → statement M
+after-append-spec =
+    tie.close (tie.spec add-if1 closed-requires returns add-t3 moved-requires returns-2)

@@ -1,0 +1,136 @@
+-- The figures that document 01 marks P, as one table that the checker computes: what is computed beside what is told.
+use Prim.Native.Nat.{ℕ, _+_}
+use mathlib.Core.Path.{_≡_, refl}
+use mathlib.Core.List.{List, [], _∷_, map, _++_}
+use lib.Dec.{eqb}
+use lib.ListN.{getD}
+use Rattle.base.specs.Choice.{pick, every, first}
+use Rattle.rules.specs.Table.{State, Outcome, unless, edgeOf, withEdge, shadeIn, badEdge}
+use Rattle.rules.specs.Records.{oneMore, afterAppend}
+use Rattle.rules.specs.Check.{sizeOk, phaseOk, owedOk, lastOk, bound, countsOk, recordOk, checkOf}
+use Rattle.rules.specs.Fresh.{tabulate, nextFree, freshLeft, freshLast, freshState, fresh}
+use Rattle.rules.specs.Places.{turnsOk, placeCode, walkFrom, arrive}
+use Rattle.rules.specs.Editor.{sideCode, owedCode, look, depart, linkTo, link, pay, shadeOwed, badFree, relink, takeNext, takeFirst, take}
+use Rattle.rules.specs.Collector.{shadeStep, afterRoots, scanStep, edgeStep, blackStep, append, appendWhite, appendStep, phaseStep, collect}
+use Rattle.rules.specs.Steps.{step, run, taking, linking, shading, collecting, looking, codeOf, nodeOf}
+use Rattle.rules.specs.Schedules.{collects}
+use Rattle.rules.specs.declared.Place.{Place}
+use Rattle.rules.specs.declared.Step.{Step}
+use Rattle.rules.specs.declared.Phase.{Phase}
+use Rattle.rules.specs.declared.Phase.the-variants.{Roots, Scan, Left, Right, Black, Append}
+use Rattle.rules.specs.declared.Answer.{Answer}
+use Rattle.rules.specs.declared.Answer.the-variants.{Started, Named, Linked, Taken, Shaded, Looked, Blackened, Whitened, Appended, Refused}
+
+-- code and node of an answer
+abbrev shown : Answer → List ℕ
+shown a = codeOf a ∷ nodeOf a ∷ []
+
+-- what each step of a run answers
+abbrev answers : List Step → State → List (List ℕ)
+answers [] s = []
+answers (a ∷ rest) s = shown (step a s .answer) ∷ answers rest (step a s .state)
+
+-- a place: so many turns from slot 0, by a word
+abbrev pub at : ℕ → ℕ → Place
+at count word = record { slot = 0; count = count; word = word }
+
+-- Fresh on slices of M entries that hold something else
+abbrev starts : ℕ → ℕ → Outcome
+starts m r = fresh m r (tabulate (λ n. n + 7) m) (tabulate (λ n. n + 7) m) (tabulate (λ n. n + 7) m)
+
+abbrev pub three : State
+three = starts 3 1 .state
+
+abbrev pub five : State
+five = starts 5 1 .state
+
+-- cycles completed, steps of this one, of the last one, nodes in use
+abbrev counts : State → List ℕ
+counts s = s .rec .cycles ∷ s .rec .steps ∷ s .rec .took ∷ s .rec .inuse ∷ []
+
+-- how many of these edges lead to n
+abbrev edgesTo : ℕ → List ℕ → ℕ
+edgesTo n [] = 0
+edgesTo n (e ∷ es) = pick (eqb e n) 1 0 + edgesTo n es
+
+-- the worked listing's five lines before the collecting
+abbrev edits : List Step
+edits = taking (at 0 0) 0 ∷ taking (at 0 0) 1 ∷ taking (at 0 0) 0 ∷ linking (at 0 0) 0 (at 1 1) ∷ shading ∷ []
+
+-- the listing's state after them and so many collector steps
+abbrev worked : ℕ → State
+worked n = run (collects n) (run edits five)
+
+-- the node appended, 0 where none was
+abbrev appended : Answer → ℕ
+appended (Started n) = 0
+appended (Named n) = 0
+appended (Linked n) = 0
+appended (Taken n) = 0
+appended (Shaded n) = 0
+appended (Looked n) = 0
+appended (Blackened n) = 0
+appended (Whitened n) = 0
+appended (Appended n) = n
+appended (Refused code n) = 0
+
+-- the position's i
+abbrev position : Phase → ℕ
+position (Roots i) = i
+position (Scan i k) = i
+position (Left i) = i
+position (Right i) = i
+position (Black i) = i
+position (Append i) = i
+
+pub record Figure : Type 0 where
+  pub computed : List (List ℕ)
+  pub told : List (List ℕ)
+
+abbrev figure : List (List ℕ) → List (List ℕ) → Figure
+figure c t = record { computed = c; told = t }
+
+abbrev pub table : List Figure
+table =
+    -- "M = 3, R = 1: list empty, last 1, Take refused 9; a quiet cycle takes 21 steps, B is 27."
+    figure
+    (three .left ∷ (three .rec .last ∷ []) ∷ answers (taking (at 0 0) 0 ∷ []) three ++ counts (run (collects 20) three) ∷ counts (run (collects 21) three) ∷ counts (run (collects 42) three) ∷ (bound 3 1 ∷ []) ∷ [])
+    ((0 ∷ 0 ∷ 0 ∷ []) ∷ (1 ∷ []) ∷ (9 ∷ 0 ∷ []) ∷ (0 ∷ 20 ∷ 0 ∷ 3 ∷ []) ∷ (1 ∷ 0 ∷ 21 ∷ 3 ∷ []) ∷ (2 ∷ 0 ∷ 21 ∷ 3 ∷ []) ∷ (27 ∷ []) ∷ []) ∷
+    -- "M = 5, R = 1: fresh left edges 0 3 0 4 0, last 4, B is 53; the quiet first cycle takes 33 steps, nodes in use 5."
+    figure
+    (five .left ∷ (five .rec .last ∷ []) ∷ (bound 5 1 ∷ []) ∷ counts (run (collects 32) five) ∷ counts (run (collects 33) five) ∷ [])
+    ((0 ∷ 3 ∷ 0 ∷ 4 ∷ 0 ∷ []) ∷ (4 ∷ []) ∷ (53 ∷ []) ∷ (0 ∷ 32 ∷ 0 ∷ 5 ∷ []) ∷ (1 ∷ 0 ∷ 33 ∷ 5 ∷ []) ∷ []) ∷
+    -- "the first eight answers above": the first line, the five edits, collect (code, and the position's i before its last step), look
+    figure
+    (shown (starts 5 1 .answer) ∷ answers edits five ++ (codeOf (step collecting (worked 61) .answer) ∷ position (worked 61 .rec .phase) ∷ []) ∷ answers (looking (at 1 0) ∷ []) (worked 62))
+    ((0 ∷ 4 ∷ []) ∷ (0 ∷ 3 ∷ []) ∷ (0 ∷ 4 ∷ []) ∷ (9 ∷ 0 ∷ []) ∷ (0 ∷ 4 ∷ []) ∷ (0 ∷ 4 ∷ []) ∷ (0 ∷ 3 ∷ []) ∷ (0 ∷ 4 ∷ []) ∷ []) ∷
+    -- "Before the collecting, node 3 is garbage but gray": it is no root, no edge leads to it, and its colour is 1
+    figure
+    ((edgesTo 3 (worked 0 .left) ∷ edgesTo 3 (worked 0 .right) ∷ getD (worked 0 .colour) 3 0 ∷ []) ∷ [])
+    ((0 ∷ 0 ∷ 1 ∷ []) ∷ []) ∷
+    -- "Cycle one takes 33 steps and whitens it; cycle two takes 30 and appends it on its 29th, the 62nd in all."
+    figure
+    (counts (worked 33) ∷ (getD (worked 33 .colour) 3 0 ∷ []) ∷ counts (worked 61) ∷ (appended (step collecting (worked 61) .answer) ∷ []) ∷ counts (worked 63) ∷ [])
+    ((1 ∷ 0 ∷ 33 ∷ 5 ∷ []) ∷ (0 ∷ []) ∷ (1 ∷ 28 ∷ 33 ∷ 4 ∷ []) ∷ (3 ∷ []) ∷ (2 ∷ 0 ∷ 30 ∷ 4 ∷ []) ∷ []) ∷
+    -- "Take after Link: 5. Shade twice: 0, then 6."
+    figure
+    (answers (linking (at 0 0) 0 (at 0 0) ∷ taking (at 0 0) 0 ∷ shading ∷ shading ∷ []) five)
+    ((0 ∷ 2 ∷ []) ∷ (5 ∷ 0 ∷ []) ∷ (0 ∷ 2 ∷ []) ∷ (6 ∷ 0 ∷ []) ∷ []) ∷
+    -- "M = 2: 1. M = 66, R = 64: 0. M = 65, R = 64: 1."
+    figure
+    (map (λ (o : Outcome). codeOf (o .answer) ∷ []) (starts 2 1 ∷ starts 66 64 ∷ starts 65 64 ∷ []))
+    ((1 ∷ []) ∷ (0 ∷ []) ∷ (1 ∷ []) ∷ []) ∷
+    -- "count 12 passes, 13 gives 4; count 1 with word 2 gives 4."
+    figure
+    (answers (looking (at 12 0) ∷ looking (at 12 4095) ∷ looking (at 13 0) ∷ looking (at 1 2) ∷ []) five)
+    ((0 ∷ 0 ∷ []) ∷ (0 ∷ 0 ∷ []) ∷ (4 ∷ 0 ∷ []) ∷ (4 ∷ 0 ∷ []) ∷ []) ∷
+    []
+
+-- in each row what is computed is what is told
+abbrev pub Agrees : List Figure → Type 0
+Agrees [] = Unit {0}
+Agrees (f ∷ fs) = (f .computed ≡ f .told) × Agrees fs
+
+pub figures : Agrees table
+unfolding pick every first unless edgeOf withEdge shadeIn badEdge oneMore afterAppend sizeOk phaseOk owedOk lastOk bound countsOk recordOk checkOf tabulate nextFree freshLeft freshLast freshState fresh turnsOk placeCode walkFrom arrive sideCode owedCode look depart linkTo link pay shadeOwed badFree relink takeNext takeFirst take shadeStep afterRoots scanStep edgeStep blackStep append appendWhite appendStep phaseStep collect step run collects
+figures = (refl, (refl, (refl, (refl, (refl, (refl, (refl, (refl, tt))))))))
