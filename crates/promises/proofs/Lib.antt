@@ -1,3 +1,4 @@
 pub mod Determined
 pub mod Figures
 pub mod Wrong
+pub mod Covered
