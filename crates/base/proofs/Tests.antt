@@ -1,7 +1,7 @@
 -- Rules by which `search` reads a test in a goal and asks for the fact about numbers: no proof names a path into `c`.
 use Prim.Native.Nat.{ℕ, _<_, _≤_}
-use mathlib.Core.Bool.{Bool, true, false, false≢true, true≢false, _&&_, _||_, not}
-use mathlib.Core.Path.{_≡_, refl, sym, _∙_, ap}
+use mathlib.Core.Bool.{Bool, true, false, false≢true, true≢false, _||_, not}
+use mathlib.Core.Path.{_≡_, refl, sym, _∙_}
 use mathlib.Core.List.{List, [], _∷_}
 use Rattle.base.specs.Choice.{every, pick, first}
 use lib.Dec.{ltb, leb, eqb}
@@ -82,15 +82,6 @@ not-is false e = refl
 pub is-not : (b : Bool) → true ≡ b → false ≡ not b
 is-not true e = refl
 is-not false e = absurd (true≢false e)
-
--- r is what a call answered for the number c
-pub code-yes : (r c k : ℕ) → r ≡ c → r ≡ k → true ≡ eqb c k
-code-yes r c k e h = eq-yes c k (sym e ∙ h)
-
-pub code-no : (r c k : ℕ) → r ≡ c → (r ≡ k → ⊥) → false ≡ eqb c k
-code-no r c k e h = eq-no c k (λ q. h (e ∙ q))
-
-pub ruleset codes = (code-yes, code-no)
 
 pub ruleset tests = (lt-yes, lt-no, le-yes, le-no, eq-yes, eq-no, every-here, every-skip, every-none, every-last, or-first, or-skip, pick-yes, pick-no, called, not-yes, not-no, not-is, is-not)
 

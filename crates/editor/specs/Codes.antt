@@ -1,7 +1,7 @@
 -- Words of the inner functions' contracts. No promise rests on this file.
 use Rattle.base.specs.Choice.{first}
 use Prim.Native.Nat.{ℕ}
-use mathlib.Core.List.{List, [], _∷_}
+use mathlib.Core.List.{[], _∷_}
 use Rattle.rules.specs.Check.{checkOf}
 use Rattle.rules.specs.Places.{placeCode}
 use Rattle.rules.specs.Editor.{sideCode, owedCode}

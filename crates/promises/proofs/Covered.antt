@@ -5,7 +5,7 @@ use mathlib.Core.List.{[], _∷_}
 use denote.Ref.{now}
 use Rattle.rules.specs.Table.{Outcome, state}
 use Rattle.rules.specs.Fresh.{fresh}
-use Rattle.rules.specs.Steps.{step, run, taking, linking, shading, collecting, looking}
+use Rattle.rules.specs.Steps.{run, taking, linking, shading, collecting, looking}
 use Rattle.fresh.proofs.fresh.Reads as fresh-call
 use Rattle.editor.proofs.look.Reads as look-call
 use Rattle.editor.proofs.link.Reads as link-call

@@ -5,12 +5,11 @@ use mathlib.Core.Logic.{_≢_}
 use mathlib.Core.Bool.{Bool, true, not}
 use mathlib.Core.List.{List, [], _∷_, map}
 use lib.Dec.{ltb, leb, eqb}
-use lib.ListN.{getD, length}
 use borrow.Author.Tests.{eqb-true, eqb-false}
 use Rattle.base.proofs.Tests.{each, not-yes}
 use Rattle.base.specs.Choice.{pick, every, first}
-use Rattle.rules.specs.Table.{State, Outcome, state, did, refuse, unless, NIL, FREE, black, left, right, edgeOf, edge, withEdge, colourOf, withColour, shadeIn, shade, badEdge}
-use Rattle.rules.specs.Records.{withLast, owing, moved, marked, next, rescan, oneMore, afterAppend}
+use Rattle.rules.specs.Table.{State, Outcome, state, did, refuse, unless, black, left, right, edgeOf, edge, withEdge, colourOf, withColour, shadeIn, shade, badEdge}
+use Rattle.rules.specs.Records.{withLast, owing, moved, marked, rescan, oneMore, afterAppend}
 use Rattle.rules.specs.Check.{sizeOk, phaseOk, owedOk, lastOk, bound, countsOk, recordOk, checkOf, check}
 use Rattle.rules.specs.Fresh.{tabulate, nextFree, freshLeft, freshLast, freshState, fresh}
 use Rattle.rules.specs.Places.{turnsOk, placeCode, walkFrom, walk, arrive}

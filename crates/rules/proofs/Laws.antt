@@ -3,19 +3,17 @@ use Prim.Native.Nat.{ℕ, _<_}
 use mathlib.Core.Bool.{Bool, true, false, _||_, false≢true}
 use mathlib.Core.Path.{_≡_, refl, sym, _∙_}
 use mathlib.Core.List.{List}
-use lib.Dec.{leb, eqb}
-use borrow.Author.Tests.{leb-false, eqb-false}
+use lib.Dec.{leb}
+use borrow.Author.Tests.{leb-false}
 use Rattle.base.specs.Choice.{pick}
 use Rattle.base.proofs.Tests.{pick-yes, pick-no, eq-yes, eq-no}
-use Rattle.rules.specs.Table.{State, Outcome, state, refuse, unless, badEdge, edge}
-use Rattle.rules.specs.Check.{check}
+use Rattle.rules.specs.Table.{State, Outcome, state, refuse, unless, badEdge}
 use Rattle.rules.specs.Editor.{look, link, shadeOwed, badFree, take}
 use Rattle.rules.specs.Collector.{collect}
 use Rattle.rules.specs.Steps.{step, taking, linking, shading, collecting, looking}
 use Rattle.rules.specs.declared.Place.{Place}
 use Rattle.rules.specs.declared.Record.{Record}
 use Rattle.rules.specs.declared.Answer.{Answer}
-use Rattle.rules.specs.declared.Answer.the-variants.{Refused}
 
 first-no : (a b : Bool) → false ≡ a || b → a ≡ false
 first-no true b q = absurd (false≢true q)
