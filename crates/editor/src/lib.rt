@@ -40,7 +40,7 @@ fn place_code(r: u16, p: Place) -> u8
 }
 
 // Code 10, of a side.
-fn side_code(side: u16) -> u8
+fn side_code(side: u32) -> u8
     ensures { λ c. ⌜ c ≡ sideCode side ⌝ }
 {
     if 1 < side {
@@ -69,7 +69,7 @@ fn stood(w: Walk) -> u16
 }
 
 // From node start, turn by turn, lowest bit first.
-fn walk_from(left: &[u16], right: &[u16], m: u16, start: u16, count: u16, word: u16) -> Walk
+fn walk_from(left: &[u16], right: &[u16], m: u16, start: u16, count: u32, word: u32) -> Walk
     requires { ⌜ (start < m) × ((length (now left) ≡ m) × (length (now right) ≡ m)) ⌝ }
     ensures { λ w. ⌜ w ≡ walkFrom (edgeOf (now (left .entry)) (now (right .entry))) m count word start ⌝ }
 {
@@ -139,7 +139,7 @@ fn link_code(
     colours: usize,
     x: Record,
     p: Place,
-    side: u16,
+    side: u32,
     q: Place,
 ) -> u8
     ensures { λ c. ⌜ c ≡ linkCode lefts rights colours x p side q ⌝ }
@@ -165,7 +165,7 @@ fn link_code(
 }
 
 // Link, from its source n: the target is walked, the edge moves, the shade is owed.
-fn link_to(left: &mut [u16], right: &mut [u16], x: Record, side: u16, q: Place, n: u16) -> Made
+fn link_to(left: &mut [u16], right: &mut [u16], x: Record, side: u32, q: Place, n: u16) -> Made
     requires { ⌜ (Good (length (now left)) (length (now right)) (x .m) x) × ((q .slot < x .r) × (n < x .m)) ⌝ }
     ensures { λ r. ⌜ ((c : List ℕ) → outcome r (now (left .exit)) (now (right .exit)) c ≡ linkTo (state (now (left .entry)) (now (right .entry)) c x) side q n) ⌝ }
 {
@@ -184,7 +184,7 @@ fn link_to(left: &mut [u16], right: &mut [u16], x: Record, side: u16, q: Place, 
 }
 
 // Link, from its source place.
-fn link_from(left: &mut [u16], right: &mut [u16], x: Record, p: Place, side: u16, q: Place) -> Made
+fn link_from(left: &mut [u16], right: &mut [u16], x: Record, p: Place, side: u32, q: Place) -> Made
     requires { ⌜ (Good (length (now left)) (length (now right)) (x .m) x) × ((p .slot < x .r) × (q .slot < x .r)) ⌝ }
     ensures { λ r. ⌜ ((c : List ℕ) → outcome r (now (left .exit)) (now (right .exit)) c ≡ depart (state (now (left .entry)) (now (right .entry)) c x) p (linkTo (state (now (left .entry)) (now (right .entry)) c x) side q)) ⌝ }
 {
@@ -211,7 +211,7 @@ pub fn link(
     colour: &[u8],
     x: Record,
     p: Place,
-    side: u16,
+    side: u32,
     q: Place,
 ) -> Made
     ensures { λ r. ⌜ outcome r (now (left .exit)) (now (right .exit)) (now (colour .entry)) ≡ step (linking p side q) (state (now (left .entry)) (now (right .entry)) (now (colour .entry)) x) ⌝ }
@@ -268,7 +268,7 @@ pub fn shade(left: &[u16], right: &[u16], colour: &mut [u8], x: Record) -> Made
     pay(colour, x, owed)
 }
 
-fn take_code(lefts: usize, rights: usize, colours: usize, x: Record, p: Place, side: u16) -> u8
+fn take_code(lefts: usize, rights: usize, colours: usize, x: Record, p: Place, side: u32) -> u8
     ensures { λ c. ⌜ c ≡ takeCode lefts rights colours x p side ⌝ }
 {
     let checked = rules::check(lefts, rights, colours, x);
@@ -302,7 +302,7 @@ fn bad_free(m: u16, r: u16, e: u16) -> bool
 }
 
 // The edge points to f, FREE's left edge to g, f's left edge to NIL; f is shaded.
-fn relink(left: &mut [u16], right: &mut [u16], colour: &mut [u8], n: u16, side: u16, f: u16, g: u16)
+fn relink(left: &mut [u16], right: &mut [u16], colour: &mut [u8], n: u16, side: u32, f: u16, g: u16)
     requires { ⌜ (1 < length (now left)) × ((1 < length (now right)) × ((n < length (now left)) × ((n < length (now right)) × ((f < length (now left)) × ((f < length (now right)) × (f < length (now colour))))))) ⌝ }
     ensures { λ _. ⌜ ((x : Record) → state (now (left .exit)) (now (right .exit)) (now (colour .exit)) x ≡ relink (state (now (left .entry)) (now (right .entry)) (now (colour .entry)) x) n side f g) ⌝ }
 {
@@ -319,7 +319,7 @@ fn take_next(
     colour: &mut [u8],
     x: Record,
     n: u16,
-    side: u16,
+    side: u32,
     f: u16,
     g: u16,
 ) -> Made
@@ -367,7 +367,7 @@ fn take_first(
     right: &mut [u16],
     colour: &mut [u8],
     x: Record,
-    side: u16,
+    side: u32,
     f: u16,
     n: u16,
 ) -> Made
@@ -397,7 +397,7 @@ fn take_from(
     colour: &mut [u8],
     x: Record,
     p: Place,
-    side: u16,
+    side: u32,
 ) -> Made
     requires { ⌜ (Good (length (now left)) (length (now right)) (length (now colour)) x) × (p .slot < x .r) ⌝ }
     ensures { λ r. ⌜ outcome r (now (left .exit)) (now (right .exit)) (now (colour .exit)) ≡ depart (state (now (left .entry)) (now (right .entry)) (now (colour .entry)) x) p (takeFirst (state (now (left .entry)) (now (right .entry)) (now (colour .entry)) x) side (edgeOf (now (left .entry)) (now (right .entry)) 0 1)) ⌝ }
@@ -426,7 +426,7 @@ pub fn take(
     colour: &mut [u8],
     x: Record,
     p: Place,
-    side: u16,
+    side: u32,
 ) -> Made
     ensures { λ r. ⌜ outcome r (now (left .exit)) (now (right .exit)) (now (colour .exit)) ≡ step (taking p side) (state (now (left .entry)) (now (right .entry)) (now (colour .entry)) x) ⌝ }
 {

@@ -62,8 +62,8 @@ pub struct Made {
 // A slot, a count of turns and the turns, lowest bit first.
 pub struct Place {
     pub slot: u32,
-    pub count: u16,
-    pub word: u16,
+    pub count: u32,
+    pub word: u32,
 }
 
 // Where a walk ends, or the node whose edge is bad.
@@ -74,14 +74,14 @@ pub enum Walk {
 
 // A step as a kind and seven numbers: 0 take, 1 link, 2 shade, 3 collect, 4 look.
 pub struct Step {
-    pub kind: u16,
+    pub kind: u32,
     pub slot: u32,
-    pub count: u16,
-    pub word: u16,
-    pub side: u16,
+    pub count: u32,
+    pub word: u32,
+    pub side: u32,
     pub toslot: u32,
-    pub tocount: u16,
-    pub toword: u16,
+    pub tocount: u32,
+    pub toword: u32,
 }
 
 // What a run of steps hands back: how many were done, the code that ended it or 0, and the record.
@@ -394,7 +394,7 @@ pub fn bad_edge(m: u16, e: u16) -> bool
 }
 
 // The edge of node n on a side.
-pub fn edge(left: &[u16], right: &[u16], side: u16, n: u16) -> u16
+pub fn edge(left: &[u16], right: &[u16], side: u32, n: u16) -> u16
     requires { ⌜ (n < length (now left)) × (n < length (now right)) ⌝ }
     ensures { λ e. ⌜ e ≡ edgeOf (now (left .entry)) (now (right .entry)) side n ⌝ }
 {
@@ -406,7 +406,7 @@ pub fn edge(left: &[u16], right: &[u16], side: u16, n: u16) -> u16
 }
 
 // The edge of node n on a side now points to t.
-pub fn set_edge(left: &mut [u16], right: &mut [u16], side: u16, n: u16, t: u16)
+pub fn set_edge(left: &mut [u16], right: &mut [u16], side: u32, n: u16, t: u16)
     requires { ⌜ (n < length (now left)) × (n < length (now right)) ⌝ }
     ensures { λ _. ⌜ ((c : List ℕ) (x : Record) → state (now (left .exit)) (now (right .exit)) c x ≡ withEdge (state (now (left .entry)) (now (right .entry)) c x) side n t) ⌝ }
 {
