@@ -1,11 +1,12 @@
 -- Every public call but Fresh is a run of steps: what it leaves is what that run leaves. So a run of calls is a run of steps, and what holds of all
 -- runs of steps holds of it. Fresh starts a run.
-use mathlib.Core.Path.{_≡_, ap}
-use mathlib.Core.List.{[], _∷_}
+use mathlib.Core.Path.{_≡_, refl, ap}
+use mathlib.Core.List.{List, [], _∷_, _++_}
 use denote.Ref.{now}
-use Rattle.rules.specs.Table.{Outcome, state}
+use Rattle.rules.specs.Table.{State, Outcome, state}
 use Rattle.rules.specs.Fresh.{fresh}
-use Rattle.rules.specs.Steps.{run, taking, linking, shading, collecting, looking}
+use Rattle.rules.specs.Steps.{step, run, taking, linking, shading, collecting, looking}
+use Rattle.rules.specs.declared.Step.{Step}
 use Rattle.fresh.proofs.fresh.Reads as fresh-call
 use Rattle.editor.proofs.look.Reads as look-call
 use Rattle.editor.proofs.link.Reads as link-call
@@ -13,6 +14,12 @@ use Rattle.editor.proofs.shade.Reads as shade-call
 use Rattle.editor.proofs.take.Reads as take-call
 use Rattle.collector.proofs.collect.Reads as collect-call
 use Rattle.calls.proofs.step.Reads as step-call
+
+-- runs follow one another
+pub run-joins : (ca cb : List Step) (s : State) → run (ca ++ cb) s ≡ run cb (run ca s)
+unfolding run
+run-joins [] cb s = refl
+run-joins (c ∷ ca) cb s = run-joins ca cb (step c s .state)
 
 -- the state of an outcome
 left-by : {o p : Outcome} → o ≡ p → o .state ≡ p .state
