@@ -83,6 +83,13 @@ pub is-not : (b : Bool) → true ≡ b → false ≡ not b
 is-not true e = refl
 is-not false e = absurd (true≢false e)
 
+-- r is what a call answered for the number c
+pub code-yes : (r c k : ℕ) → r ≡ c → r ≡ k → true ≡ eqb c k
+code-yes r c k e h = eq-yes c k (sym e ∙ h)
+
+pub code-no : (r c k : ℕ) → r ≡ c → (r ≡ k → ⊥) → false ≡ eqb c k
+code-no r c k e h = eq-no c k (λ q. h (e ∙ q))
+
 pub ruleset tests = (lt-yes, lt-no, le-yes, le-no, eq-yes, eq-no, every-here, every-skip, every-none, every-last, or-first, or-skip, pick-yes, pick-no, called, not-yes, not-no, not-is, is-not)
 
 -- what passed tests tell: each is `test ≡ true`

@@ -2,3 +2,4 @@ pub mod Determined
 pub mod Figures
 pub mod Wrong
 pub mod Covered
+pub mod Lent

@@ -2,3 +2,4 @@ pub mod Sizes
 pub mod Good
 pub mod Laws
 pub mod Walks
+pub mod Refused

@@ -1,0 +1,26 @@
+use borrow.Author.Needs.{needs}
+use Rattle.schedule.proofs.advance.Statement.{statement}
+use Rattle.schedule.proofs.advance.Tie as tie
+
+step-requires : tie.Need-step-requires
+step-requires c κs = search needs
+
+after-requires : tie.Need-after-requires
+after-requires c κs = search needs
+
+same-length : tie.Need-same-length
+same-length c = search needs
+
+same-length-2 : tie.Need-same-length-2
+same-length-2 c = search needs
+
+same-length-3 : tie.Need-same-length-3
+same-length-3 c = search needs
+
+returns : tie.Need-returns
+returns c = (_, (c .before .before .before .before .before .before .before .step .ensures, c .after .ensures))
+
+pub advance-spec : {M : Type 1} → statement M
+advance-spec =
+    tie.close
+    (tie.spec step-requires after-requires same-length same-length-2 same-length-3 returns)

@@ -1,0 +1,97 @@
+// A schedule: a lent run of steps, done in order until one is refused.
+use rules::Made;
+use rules::Ran;
+use rules::Record;
+use rules::Step;
+ghost use mathlib.Core.Path.{_≡_};
+ghost use Prim.Native.Nat.{_<_};
+ghost use Rattle.rules.specs.Table.{state, outcome};
+ghost use Rattle.rules.specs.declared.Made.{Made};
+ghost use Rattle.rules.specs.Check.{checkOf};
+ghost use Rattle.rules.specs.Steps.{step};
+ghost use Rattle.rules.specs.Schedules.{ran, schedule};
+ghost use Rattle.schedule.specs.Stands.{begun, after};
+
+// Where a run stands: the next step, the step before which it ends, the code, and the record.
+struct Going {
+    at: usize,
+    end: usize,
+    code: u8,
+    rec: Record,
+}
+
+// Codes 1 and 2, judged for an empty run too.
+fn begin(lefts: usize, rights: usize, colours: usize, x: Record, n: usize) -> Going
+    ensures { λ g. ⌜ g ≡ begun (checkOf lefts rights colours x) n x ⌝ }
+{
+    let judged = rules::check(lefts, rights, colours, x);
+    if judged != 0 {
+        return Going {
+            at: 0,
+            end: 0,
+            code: judged,
+            rec: x,
+        };
+    }
+    Going {
+        at: 0,
+        end: n,
+        code: 0,
+        rec: x,
+    }
+}
+
+// After a step: one more is done, or the run ends here with its code.
+fn after(g: Going, made: Made) -> Going
+    requires { ⌜ g .at < g .end ⌝ }
+    ensures { λ r. ⌜ r ≡ after g (made .answer) (made .rec) ⌝ }
+{
+    let next = g.at + 1;
+    let answer = made.answer;
+    let code = answer.code();
+    let rec = made.rec;
+    if code != 0 {
+        return Going {
+            at: g.at,
+            end: g.at,
+            code,
+            rec,
+        };
+    }
+    Going {
+        at: next,
+        end: g.end,
+        code: 0,
+        rec,
+    }
+}
+
+// One step.
+fn advance(left: &mut [u16], right: &mut [u16], colour: &mut [u8], g: Going, a: Step) -> Going
+    requires { ⌜ g .at < g .end ⌝ }
+    ensures { λ r. ⌜ ((d : Made) × ((outcome d (now (left .exit)) (now (right .exit)) (now (colour .exit)) ≡ step a (state (now (left .entry)) (now (right .entry)) (now (colour .entry)) (g .rec))) × (r ≡ after g (d .answer) (d .rec)))) ⌝ }
+{
+    let x = g.rec;
+    after(g, calls::step(left, right, colour, x, a))
+}
+
+// The steps in order until one is refused: how many were done, and the code.
+pub fn schedule(
+    steps: &[Step],
+    left: &mut [u16],
+    right: &mut [u16],
+    colour: &mut [u8],
+    rec: Record,
+) -> Ran
+    ensures { λ r. ⌜ ran r (now (left .exit)) (now (right .exit)) (now (colour .exit)) ≡ schedule (now (steps .entry)) (state (now (left .entry)) (now (right .entry)) (now (colour .entry)) rec) ⌝ }
+{
+    let mut g = begin(left.len(), right.len(), colour.len(), rec, steps.len());
+    while g.at < g.end {
+        g = advance(left, right, colour, g, steps[g.at]);
+    }
+    Ran {
+        done: g.at,
+        code: g.code,
+        rec: g.rec,
+    }
+}
