@@ -150,7 +150,7 @@ fn append_step(left: &mut [u16], right: &mut [u16], colour: &mut [u8], x: Record
 }
 
 // The step of a phase, where neither code 1 nor 2 is given.
-fn phase_step(
+pub fn phase_step(
     left: &mut [u16],
     right: &mut [u16],
     colour: &mut [u8],

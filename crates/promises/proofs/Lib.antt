@@ -3,3 +3,4 @@ pub mod Figures
 pub mod Wrong
 pub mod Covered
 pub mod Lent
+pub mod Many

@@ -1,0 +1,46 @@
+use Prim.Native.Nat.{_-_}
+use mathlib.Core.Path.{sym, _∙_}
+use native.Mathlib.Omega.{arith}
+use borrow.Author.Needs.{needs}
+use Rattle.rules.specs.Check.{bound}
+use Rattle.rules.proofs.Good.{good}
+use Rattle.batch.proofs.Last.{scheduled, unscheduled}
+use Rattle.batch.proofs.collect_many.Statement.{statement}
+use Rattle.batch.proofs.collect_many.Tie as tie
+
+check-requires : tie.Need-check-requires
+check-requires c κs = search needs
+
+returns : tie.Need-returns
+returns c = unscheduled _ _ _ (c .before .check .ensures) (c .if1 .taken)
+
+bound-requires : tie.Need-bound-requires
+bound-requires c κs = let g = good _ _ _ _ (sym (c .before .before .before .if1 .left) ∙ c .before .before .before .before .check .ensures) in omega arith
+
+turns-requires : tie.Need-turns-requires
+turns-requires c κs = (record { code = sym (c .before .before .before .before .if1 .left) ∙ c .before .before .before .before .before .check .ensures }, c .bound .ensures)
+
+same-length : tie.Need-same-length
+same-length c = search needs
+
+same-length-2 : tie.Need-same-length-2
+same-length-2 c = search needs
+
+same-length-3 : tie.Need-same-length-3
+same-length-3 c = search needs
+
+returns-2 : tie.Need-returns-2
+returns-2 c = scheduled _ _ _ _ _ (record { code = sym (c .before .before .before .before .before .before .before .before .before .before .before .if1 .left) ∙ c .before .before .before .before .before .before .before .before .before .before .before .before .check .ensures }) (c .before .before .before .before .before .before .turns .ensures)
+
+pub collect-many-spec : {M : Type 1} → statement M
+collect-many-spec =
+    tie.close
+    (tie.spec
+    check-requires
+    returns
+    bound-requires
+    turns-requires
+    same-length
+    same-length-2
+    same-length-3
+    returns-2)

@@ -1,0 +1,14 @@
+use Prim.Native.Nat.{_-_}
+use mathlib.Core.Path.{refl}
+use native.Mathlib.Omega.{arith}
+use Rattle.batch.proofs.ended.Statement.{statement}
+use Rattle.batch.proofs.ended.Tie as tie
+
+returns : tie.Need-returns
+returns c = (λ h. refl, λ h. absurd (omega arith))
+
+returns-2 : tie.Need-returns-2
+returns-2 c = (λ h. absurd (omega arith), λ h. refl)
+
+pub ended-spec : {M : Type 1} → statement M
+ended-spec = tie.close (tie.spec returns returns-2)

@@ -1,0 +1,112 @@
+use Prim.Native.Nat.{_-_}
+use mathlib.Core.Path.{refl}
+use native.Mathlib.Omega.{arith}
+use borrow.Author.Needs.{needs}
+use Rattle.strides.proofs.Strides.{stay}
+use Rattle.batch.proofs.stride.Statement.{statement}
+use Rattle.batch.proofs.stride.Tie as tie
+
+returns : tie.Need-returns
+returns c = (omega arith, stay _ 0 refl (c .before .before .before .before .pre .0))
+
+enum-known-phase : tie.Need-enum-known-phase
+enum-known-phase c = search needs
+
+roots-requires : tie.Need-roots-requires
+roots-requires c κs = search needs
+
+enum-known-phase-2 : tie.Need-enum-known-phase-2
+enum-known-phase-2 c = search needs
+
+scans-requires : tie.Need-scans-requires
+scans-requires c κs = search needs
+
+enum-known-phase-3 : tie.Need-enum-known-phase-3
+enum-known-phase-3 c = search needs
+
+appends-requires : tie.Need-appends-requires
+appends-requires c κs = search needs
+
+enum-told : tie.Need-enum-told
+enum-told c = search needs
+
+enum-told-2 : tie.Need-enum-told-2
+enum-told-2 c = search needs
+
+enum-told-3 : tie.Need-enum-told-3
+enum-told-3 c = search needs
+
+same-length : tie.Need-same-length
+same-length c = search needs
+
+same-length-2 : tie.Need-same-length-2
+same-length-2 c = search needs
+
+same-length-3 : tie.Need-same-length-3
+same-length-3 c = search needs
+
+returns-2 : tie.Need-returns-2
+returns-2 c = search needs
+
+same-length-4 : tie.Need-same-length-4
+same-length-4 c = search needs
+
+same-length-5 : tie.Need-same-length-5
+same-length-5 c = search needs
+
+same-length-6 : tie.Need-same-length-6
+same-length-6 c = search needs
+
+returns-3 : tie.Need-returns-3
+returns-3 c = search needs
+
+same-length-7 : tie.Need-same-length-7
+same-length-7 c = search needs
+
+same-length-8 : tie.Need-same-length-8
+same-length-8 c = search needs
+
+same-length-9 : tie.Need-same-length-9
+same-length-9 c = search needs
+
+returns-4 : tie.Need-returns-4
+returns-4 c = search needs
+
+returns-5 : tie.Need-returns-5
+returns-5 c = (omega arith, stay _ 0 refl (c .before .before .before .before .before .before .pre .0))
+
+returns-6 : tie.Need-returns-6
+returns-6 c = (omega arith, stay _ 0 refl (c .before .before .before .before .before .before .pre .0))
+
+returns-7 : tie.Need-returns-7
+returns-7 c = (omega arith, stay _ 0 refl (c .before .before .before .before .before .before .pre .0))
+
+pub stride-spec : {M : Type 1} → statement M
+stride-spec =
+    tie.close
+    (tie.spec
+    returns
+    enum-known-phase
+    roots-requires
+    enum-known-phase-2
+    scans-requires
+    enum-known-phase-3
+    appends-requires
+    enum-told
+    enum-told-2
+    enum-told-3
+    same-length
+    same-length-2
+    same-length-3
+    returns-2
+    same-length-4
+    same-length-5
+    same-length-6
+    returns-3
+    same-length-7
+    same-length-8
+    same-length-9
+    returns-4
+    returns-5
+    returns-6
+    returns-7)

@@ -1,0 +1,51 @@
+use Prim.Native.Nat.{_-_}
+use native.Mathlib.Omega.{arith}
+use borrow.Author.Needs.{needs}
+use Rattle.batch.proofs.Runs.{ready, steps-in, room, turned}
+use Rattle.batch.proofs.turn.Statement.{statement}
+use Rattle.batch.proofs.turn.Tie as tie
+
+sub-near : tie.Need-sub-near
+sub-near c = let h = steps-in _ _ _ _ _ (c .before .before .before .pre .0) (c .before .before .before .pre .1) in omega arith
+
+sub-near-2 : tie.Need-sub-near-2
+sub-near-2 c = let h = steps-in _ _ _ _ _ (c .before .before .before .before .pre .0) (c .before .before .before .before .pre .1) in omega arith
+
+cast-least : tie.Need-cast-least
+cast-least c = search needs
+
+least-requires : tie.Need-least-requires
+least-requires c κs = search needs
+
+stride-requires : tie.Need-stride-requires
+stride-requires c κs = let h = steps-in _ _ _ _ _ (c .before .before .before .before .before .before .before .before .pre .0) (c .before .before .before .before .before .before .before .before .pre .1) in (c .before .before .before .before .before .before .before .before .pre .0, room _ _ _ (c .before .before .before .before .before .before .before .before .pre .1) (omega arith))
+
+phase-step-requires : tie.Need-phase-step-requires
+phase-step-requires c κs = ready _ _ _ _ (c .before .before .before .before .before .before .before .before .before .before .stride .ensures .1 .passes)
+
+same-length : tie.Need-same-length
+same-length c = search needs
+
+same-length-2 : tie.Need-same-length-2
+same-length-2 c = search needs
+
+same-length-3 : tie.Need-same-length-3
+same-length-3 c = search needs
+
+returns : tie.Need-returns
+returns c = (omega arith, turned _ _ _ _ _ (c .before .before .before .before .before .before .before .before .before .before .before .before .before .before .before .before .before .before .before .before .before .before .before .before .before .before .before .pre .1) (c .before .before .before .before .before .before .before .before .before .before .before .before .before .before .before .before .before .before .stride .ensures .1) (c .before .before .before .before .before .before .before .phase-step .ensures))
+
+pub turn-spec : {M : Type 1} → statement M
+turn-spec =
+    tie.close
+    (tie.spec
+    sub-near
+    sub-near-2
+    cast-least
+    least-requires
+    stride-requires
+    phase-step-requires
+    same-length
+    same-length-2
+    same-length-3
+    returns)

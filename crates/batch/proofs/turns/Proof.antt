@@ -1,0 +1,118 @@
+use Prim.Native.Nat.{_-_, _≤_}
+use mathlib.Core.Path.{_≡_, refl, sym, _∙_}
+use lib.ListN.{length}
+use native.Mathlib.Omega.{arith}
+use native.Mathlib.Nat.{sub-zero}
+use Rattle.base.proofs.Tests.{not-no, not-yes}
+use Rattle.rules.specs.Table.{state}
+use Rattle.rules.specs.Check.{bound}
+use Rattle.strides.specs.Leads.{more, Passes}
+use Rattle.batch.proofs.Runs.{stopped, gone-on, spoilt-end, none-left}
+use Rattle.batch.proofs.turns.Statement.{statement}
+use Rattle.batch.proofs.turns.Tie as tie
+
+abbrev Inv-loop : tie.InvT-loop
+Inv-loop left₀ right₀ colour₀ b n rec₀ answer₀ done₀ left right colour rec answer done =
+    (length left ≡ length left₀) × (length right ≡ length right₀) × (length colour ≡ length colour₀) × (done ≤ n) × (Passes (state left right colour rec)) × (b ≡ bound (rec .m) (rec .r)) × (more n 0 answer₀ (state left₀ right₀ colour₀ rec₀) ≡ more (n - done) done answer (state left right colour rec))
+
+abbrev μ-loop : tie.MeasureT-loop
+μ-loop left₀ right₀ colour₀ b n rec₀ answer₀ done₀ left right colour rec answer done = n - done
+
+loop-holds : tie.Need-loop-holds Inv-loop μ-loop
+loop-holds c = (refl, refl, refl, omega arith, c .before .before .before .pre .0, c .before .before .before .pre .1, rw sub-zero)
+
+sub-turn : tie.Need-sub-turn Inv-loop μ-loop
+sub-turn c = omega arith
+
+sub-turn-2 : tie.Need-sub-turn-2 Inv-loop μ-loop
+sub-turn-2 c = omega arith
+
+turn-requires : tie.Need-turn-requires Inv-loop μ-loop
+turn-requires c κs = (c .before .before .before .before .loop .inv .4, c .before .before .before .before .loop .inv .5)
+
+add-done : tie.Need-add-done Inv-loop μ-loop
+add-done c = omega arith
+
+code-requires : tie.Need-code-requires Inv-loop μ-loop
+code-requires c κs = omega arith
+
+same-length : tie.Need-same-length Inv-loop μ-loop
+same-length c = omega arith
+
+same-length-2 : tie.Need-same-length-2 Inv-loop μ-loop
+same-length-2 c = omega arith
+
+same-length-3 : tie.Need-same-length-3 Inv-loop μ-loop
+same-length-3 c = omega arith
+
+returns : tie.Need-returns Inv-loop μ-loop
+returns c = stopped _ _ _ _ _ (c .before .before .before .before .before .before .before .before .before .before .turn .ensures .1) _ _ _ (omega arith) (λ z. c .if1 .taken ((c .before .code .ensures) ∙ z)) ∙ sym (c .before .before .before .before .before .before .before .before .before .before .before .before .before .before .before .loop .inv .6)
+
+add-done-2 : tie.Need-add-done-2 Inv-loop μ-loop
+add-done-2 c = omega arith
+
+fine-requires : tie.Need-fine-requires Inv-loop μ-loop
+fine-requires c κs = omega arith
+
+ended-requires : tie.Need-ended-requires Inv-loop μ-loop
+ended-requires c κs = omega arith
+
+same-length-4 : tie.Need-same-length-4 Inv-loop μ-loop
+same-length-4 c = omega arith
+
+same-length-5 : tie.Need-same-length-5 Inv-loop μ-loop
+same-length-5 c = omega arith
+
+same-length-6 : tie.Need-same-length-6 Inv-loop μ-loop
+same-length-6 c = omega arith
+
+returns-2 : tie.Need-returns-2 Inv-loop μ-loop
+returns-2 c = spoilt-end _ _ _ _ _ (c .before .before .before .before .before .before .before .before .before .before .before .before .before .turn .ensures .1) (not-yes _ (c .before .if2 .taken) ∙ c .before .before .fine .ensures) (sym (c .before .before .before .before .code .ensures) ∙ c .before .before .before .if1 .left) _ _ _ _ (omega arith) (c .ended .ensures .0) (c .ended .ensures .1) ∙ sym (c .before .before .before .before .before .before .before .before .before .before .before .before .before .before .before .before .before .before .loop .inv .6)
+
+loop-less : tie.Need-loop-less Inv-loop μ-loop
+loop-less c = omega arith
+
+loop-again : tie.Need-loop-again Inv-loop μ-loop
+loop-again c = (omega arith, omega arith, omega arith, omega arith, c .before .before .before .before .before .before .before .before .before .before .before .before .turn .ensures .1 .passes (not-no _ (c .if2 .left) ∙ c .before .fine .ensures), rw (c .before .before .before .before .before .before .before .before .before .before .before .before .turn .ensures .1 .m, c .before .before .before .before .before .before .before .before .before .before .before .before .turn .ensures .1 .r) (c .before .before .before .before .before .before .before .before .before .before .before .before .before .before .before .before .before .loop .inv .5), c .before .before .before .before .before .before .before .before .before .before .before .before .before .before .before .before .before .loop .inv .6 ∙ gone-on _ _ _ _ _ (c .before .before .before .before .before .before .before .before .before .before .before .before .turn .ensures .1) _ _ _ _ (omega arith) (sym (c .before .before .before .code .ensures) ∙ c .before .before .if1 .left))
+
+same-length-7 : tie.Need-same-length-7 Inv-loop μ-loop
+same-length-7 c = omega arith
+
+same-length-8 : tie.Need-same-length-8 Inv-loop μ-loop
+same-length-8 c = omega arith
+
+same-length-9 : tie.Need-same-length-9 Inv-loop μ-loop
+same-length-9 c = omega arith
+
+returns-3 : tie.Need-returns-3 Inv-loop μ-loop
+returns-3 c = none-left _ _ _ _ (omega arith) ∙ sym (c .before .loop .inv .6)
+
+pub turns-spec : {M : Type 1} → statement M
+turns-spec =
+    tie.close
+    (tie.spec
+    Inv-loop
+    μ-loop
+    loop-holds
+    sub-turn
+    sub-turn-2
+    turn-requires
+    add-done
+    code-requires
+    same-length
+    same-length-2
+    same-length-3
+    returns
+    add-done-2
+    fine-requires
+    ended-requires
+    same-length-4
+    same-length-5
+    same-length-6
+    returns-2
+    loop-less
+    loop-again
+    same-length-7
+    same-length-8
+    same-length-9
+    returns-3)

@@ -1,0 +1,132 @@
+// Many collector steps in one call: what is judged at each step is judged once, and runs of steps are made at once.
+use rules::Answer;
+use rules::Phase;
+use rules::Record;
+use strides::Ahead;
+ghost use mathlib.Core.Path.{_≡_};
+ghost use Prim.Native.Nat.{ℕ, _+_, _<_, _≤_};
+ghost use Rattle.rules.specs.Table.{state};
+ghost use Rattle.rules.specs.Check.{bound};
+ghost use Rattle.rules.specs.Schedules.{schedule, collects};
+ghost use Rattle.rules.specs.declared.Answer.the-variants.{Named, Refused};
+ghost use Rattle.strides.specs.Leads.{lasted, more, Passes, Room, Leads};
+ghost use Rattle.batch.specs.Last.{many, lastAnswer};
+ghost use Rattle.batch.specs.Turns.{Turn};
+
+// How many steps were done, what the last one answered, or the one that was refused, and the record.
+pub struct Many {
+    pub done: usize,
+    pub answer: Answer,
+    pub rec: Record,
+}
+
+// At most cap steps of the record's phase at once.
+fn stride(left: &mut [u16], right: &mut [u16], colour: &mut [u8], x: Record, cap: usize) -> Ahead
+    requires { ⌜ (Passes (state (now left) (now right) (now colour) x)) × (Room x cap) ⌝ }
+    ensures { λ r. ⌜ (r .d ≤ cap) × Leads (state (now (left .entry)) (now (right .entry)) (now (colour .entry)) x) (r .d) (state (now (left .exit)) (now (right .exit)) (now (colour .exit)) (r .rec)) ⌝ }
+{
+    if cap == 0 {
+        return Ahead { d: 0, rec: x };
+    }
+    let phase = x.phase;
+    match phase {
+        Phase::Roots(i) => sweep::roots(left, right, colour, x, i, cap),
+        Phase::Scan(i, k) => mark::scans(left, right, colour, x, i, k, cap),
+        Phase::Append(i) => sweep::appends(left, right, colour, x, i, cap),
+        Phase::Left(_) => Ahead { d: 0, rec: x },
+        Phase::Right(_) => Ahead { d: 0, rec: x },
+        Phase::Black(_) => Ahead { d: 0, rec: x },
+    }
+}
+
+// At most most steps at once, and then one.
+fn turn(
+    left: &mut [u16],
+    right: &mut [u16],
+    colour: &mut [u8],
+    x: Record,
+    b: u32,
+    most: usize,
+) -> Many
+    requires { ⌜ (Passes (state (now left) (now right) (now colour) x)) × (b ≡ bound (x .m) (x .r)) ⌝ }
+    ensures { λ r. ⌜ (r .done ≤ most) × Turn b (state (now (left .entry)) (now (right .entry)) (now (colour .entry)) x) (r .done) (r .answer) (state (now (left .exit)) (now (right .exit)) (now (colour .exit)) (r .rec)) ⌝ }
+{
+    let near = b - 1 - x.steps;
+    let l = stride(left, right, colour, x, strides::least(most, near as usize));
+    let y = l.rec;
+    let phase = y.phase;
+    let made = collector::phase_step(left, right, colour, y, phase);
+    let answer = made.answer;
+    let rec = made.rec;
+    Many {
+        done: l.d,
+        answer,
+        rec,
+    }
+}
+
+// The answer of a run that stands at a record with a count past its limit: code 2 where a step is still to be made.
+fn ended(done: usize, n: usize, a: Answer) -> Answer
+    ensures { λ r. ⌜ (done < n → r ≡ Refused 2 0) × (n ≤ done → r ≡ a) ⌝ }
+{
+    if done < n {
+        return Answer::Refused(2, 0);
+    }
+    a
+}
+
+// n steps, from a record that passes.
+fn turns(
+    left: &mut [u16],
+    right: &mut [u16],
+    colour: &mut [u8],
+    x: Record,
+    b: u32,
+    n: usize,
+) -> Many
+    requires { ⌜ (Passes (state (now left) (now right) (now colour) x)) × (b ≡ bound (x .m) (x .r)) ⌝ }
+    ensures { λ r. ⌜ lasted (r .done) (r .answer) (state (now (left .exit)) (now (right .exit)) (now (colour .exit)) (r .rec)) ≡ more n 0 (Named 0) (state (now (left .entry)) (now (right .entry)) (now (colour .entry)) x) ⌝ }
+{
+    let mut rec = x;
+    let mut answer = Answer::Named(0);
+    let mut done = 0;
+    while done < n {
+        let gone = turn(left, right, colour, rec, b, n - done - 1);
+        rec = gone.rec;
+        answer = gone.answer;
+        done += gone.done;
+        if answer.code() != 0 {
+            return Many { done, answer, rec };
+        }
+        done += 1;
+        if !strides::fine(b, rec) {
+            return Many {
+                done,
+                answer: ended(done, n, answer),
+                rec,
+            };
+        }
+    }
+    Many { done, answer, rec }
+}
+
+// n steps of the collector, or as many as are done before one is refused.
+pub fn collect_many(
+    left: &mut [u16],
+    right: &mut [u16],
+    colour: &mut [u8],
+    x: Record,
+    n: usize,
+) -> Many
+    ensures { λ r. ⌜ (many r (now (left .exit)) (now (right .exit)) (now (colour .exit)) ≡ schedule (collects n) (state (now (left .entry)) (now (right .entry)) (now (colour .entry)) x)) × (r .answer ≡ lastAnswer n (state (now (left .entry)) (now (right .entry)) (now (colour .entry)) x)) ⌝ }
+{
+    let code = rules::check(left.len(), right.len(), colour.len(), x);
+    if code != 0 {
+        return Many {
+            done: 0,
+            answer: Answer::Refused(code, 0),
+            rec: x,
+        };
+    }
+    turns(left, right, colour, x, rules::bound(x.m, x.r), n)
+}

@@ -1,0 +1,16 @@
+use Prim.Native.Nat.{_-_}
+use mathlib.Core.Path.{sym}
+use native.Mathlib.Omega.{arith}
+use native.Mathlib.Nat.{mod-eq-of-lt}
+use Rattle.skim.proofs.Calms.{round}
+use Rattle.mark.proofs.around.Statement.{statement}
+use Rattle.mark.proofs.around.Tie as tie
+
+returns : tie.Need-returns
+returns c = sym (mod-eq-of-lt (c .if1 .taken))
+
+returns-2 : tie.Need-returns-2
+returns-2 c = sym (round _ _ (omega arith) (omega arith))
+
+pub around-spec : {M : Type 1} → statement M
+around-spec = tie.close (tie.spec returns returns-2)

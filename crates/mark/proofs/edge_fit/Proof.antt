@@ -1,0 +1,22 @@
+use Prim.Native.Nat.{_-_}
+use mathlib.Core.Bool.{true, false, false≢true}
+use native.Mathlib.Omega.{arith}
+use borrow.Author.Needs.{needs}
+use borrow.Author.Tests.{leb-true}
+use Rattle.mark.proofs.edge_fit.Statement.{statement}
+use Rattle.mark.proofs.edge_fit.Tie as tie
+
+returns : tie.Need-returns
+returns c = λ h. absurd (false≢true h)
+
+returns-2 : tie.Need-returns-2
+returns-2 c = λ h. absurd (false≢true h)
+
+shared-slice-read-result : tie.Need-shared-slice-read-result
+shared-slice-read-result c = search needs
+
+returns-3 : tie.Need-returns-3
+returns-3 c = λ h. record { below = omega arith; not-free = c .before .if2 .left; known = leb-true _ _ h }
+
+pub edge-fit-spec : {M : Type 1} → statement M
+edge-fit-spec = tie.close (tie.spec returns returns-2 shared-slice-read-result returns-3)

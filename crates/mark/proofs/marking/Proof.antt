@@ -1,0 +1,54 @@
+use Prim.Native.Nat.{_-_}
+use mathlib.Core.Path.{_≡_, refl}
+use lib.ListN.{length}
+use native.Mathlib.Omega.{arith}
+use Rattle.mark.specs.Spots.{Goes}
+use Rattle.mark.proofs.Marks.{stays, goes-on}
+use Rattle.mark.proofs.marking.Statement.{statement}
+use Rattle.mark.proofs.marking.Tie as tie
+
+abbrev Inv-loop : tie.InvT-loop
+Inv-loop left right colour₀ x cap s₀ colour s =
+    (length colour ≡ length colour₀) × Goes left right colour₀ x cap s₀ colour s
+
+abbrev μ-loop : tie.MeasureT-loop
+μ-loop left right colour₀ x cap s₀ colour s = cap - s .d
+
+loop-holds : tie.Need-loop-holds Inv-loop μ-loop
+loop-holds c = (refl, stays _ _ _ _ _ _ (c .before .before .before .pre .0))
+
+turn-requires : tie.Need-turn-requires Inv-loop μ-loop
+turn-requires c κs = (c .before .before .before .loop .inv .1 .known, c .before .before .before .before .before .before .before .pre .1)
+
+same-length : tie.Need-same-length Inv-loop μ-loop
+same-length c = omega arith
+
+returns : tie.Need-returns Inv-loop μ-loop
+returns c = goes-on _ _ _ _ _ _ _ _ _ _ (c .before .before .before .before .before .before .before .before .before .loop .inv .1) (c .before .before .before .before .before .turn .ensures)
+
+loop-less : tie.Need-loop-less Inv-loop μ-loop
+loop-less c = omega arith
+
+loop-again : tie.Need-loop-again Inv-loop μ-loop
+loop-again c = (omega arith, goes-on _ _ _ _ _ _ _ _ _ _ (c .before .before .before .before .before .before .before .before .before .loop .inv .1) (c .before .before .before .before .before .turn .ensures))
+
+same-length-2 : tie.Need-same-length-2 Inv-loop μ-loop
+same-length-2 c = omega arith
+
+returns-2 : tie.Need-returns-2 Inv-loop μ-loop
+returns-2 c = c .before .before .loop .inv .1
+
+pub marking-spec : {M : Type 1} → statement M
+marking-spec =
+    tie.close
+    (tie.spec
+    Inv-loop
+    μ-loop
+    loop-holds
+    turn-requires
+    same-length
+    returns
+    loop-less
+    loop-again
+    same-length-2
+    returns-2)

@@ -1,0 +1,70 @@
+use Prim.Native.Nat.{_-_}
+use mathlib.Core.Path.{sym}
+use mathlib.Core.Bool.{true, false, false≢true}
+use native.Mathlib.Omega.{arith}
+use borrow.Author.Needs.{needs}
+use Rattle.base.proofs.Tests.{not-no}
+use Rattle.mark.proofs.Marks.{at}
+use Rattle.mark.proofs.ripe.Statement.{statement}
+use Rattle.mark.proofs.ripe.Tie as tie
+
+sub-if1 : tie.Need-sub-if1
+sub-if1 c = search needs
+
+returns : tie.Need-returns
+returns c = λ h. absurd (false≢true h)
+
+cast-if2 : tie.Need-cast-if2
+cast-if2 c = search needs
+
+returns-2 : tie.Need-returns-2
+returns-2 c = λ h. absurd (false≢true h)
+
+shared-slice-read-if3 : tie.Need-shared-slice-read-if3
+shared-slice-read-if3 c = let g = at _ _ _ _ _ (c .before .before .before .before .before .before .before .before .before .pre .0 .passes) in omega arith
+
+returns-3 : tie.Need-returns-3
+returns-3 c = λ h. absurd (false≢true h)
+
+mul-edge-fit : tie.Need-mul-edge-fit
+mul-edge-fit c = let g = at _ _ _ _ _ (c .before .before .before .before .before .before .before .before .before .before .pre .0 .passes) in omega arith
+
+shared-slice-read-edge-fit : tie.Need-shared-slice-read-edge-fit
+shared-slice-read-edge-fit c = let g = at _ _ _ _ _ (c .before .before .before .before .before .before .before .before .before .before .before .pre .0 .passes) in omega arith
+
+edge-fit-requires : tie.Need-edge-fit-requires
+edge-fit-requires c κs = let g = at _ _ _ _ _ (c .before .before .before .before .before .before .before .before .before .before .before .pre .0 .passes) in omega arith
+
+returns-4 : tie.Need-returns-4
+returns-4 c = λ h. absurd (false≢true h)
+
+mul-edge-fit-2 : tie.Need-mul-edge-fit-2
+mul-edge-fit-2 c = let g = at _ _ _ _ _ (c .before .before .before .before .before .before .before .before .before .before .before .before .before .pre .0 .passes) in omega arith
+
+shared-slice-read-edge-fit-2 : tie.Need-shared-slice-read-edge-fit-2
+shared-slice-read-edge-fit-2 c = let g = at _ _ _ _ _ (c .before .before .before .before .before .before .before .before .before .before .before .before .before .before .pre .0 .passes) in omega arith
+
+edge-fit-requires-2 : tie.Need-edge-fit-requires-2
+edge-fit-requires-2 c κs = let g = at _ _ _ _ _ (c .before .before .before .before .before .before .before .before .before .before .before .before .before .before .pre .0 .passes) in omega arith
+
+returns-5 : tie.Need-returns-5
+returns-5 c = λ h. record { room = omega arith; dark = omega arith; gray = c .before .before .before .before .before .if3 .left; left = c .before .before .before .edge-fit .ensures (sym (not-no _ (c .before .before .if4 .left))); right = c .edge-fit2 .ensures h }
+
+pub ripe-spec : {M : Type 1} → statement M
+ripe-spec =
+    tie.close
+    (tie.spec
+    sub-if1
+    returns
+    cast-if2
+    returns-2
+    shared-slice-read-if3
+    returns-3
+    mul-edge-fit
+    shared-slice-read-edge-fit
+    edge-fit-requires
+    returns-4
+    mul-edge-fit-2
+    shared-slice-read-edge-fit-2
+    edge-fit-requires-2
+    returns-5)

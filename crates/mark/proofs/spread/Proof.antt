@@ -1,0 +1,39 @@
+use Prim.Native.Nat.{_-_}
+use native.Mathlib.Omega.{arith}
+use borrow.Author.Needs.{needs}
+use Rattle.mark.proofs.Marks.{few-left}
+use Rattle.mark.proofs.spread.Statement.{statement}
+use Rattle.mark.proofs.spread.Tie as tie
+
+light-requires : tie.Need-light-requires
+light-requires c κs = search needs
+
+light-requires-2 : tie.Need-light-requires-2
+light-requires-2 c κs = search needs
+
+blacken-requires : tie.Need-blacken-requires
+blacken-requires c κs = search needs
+
+add-t14 : tie.Need-add-t14
+add-t14 c = search needs
+
+newer-requires : tie.Need-newer-requires
+newer-requires c κs = search needs
+
+same-length : tie.Need-same-length
+same-length c = search needs
+
+returns : tie.Need-returns
+returns c = (omega arith, (λ m h k. c .newer .ensures m h k, (rw (c .before .before .before .blacken .ensures, c .before .before .before .before .before .before .before .light2 .ensures .1 .0, c .before .before .before .before .before .before .before .before .before .before .before .light .ensures .1 .0), few-left _ _ _ _ _ _ _ _ _ (omega arith) (omega arith) (omega arith) (c .before .before .before .before .before .before .before .before .before .before .before .before .before .before .pre .1 .1 .1) (c .before .before .before .before .before .before .before .before .before .before .before .light .ensures .1 .0) (c .before .before .before .before .before .before .before .light2 .ensures .1 .0) (c .before .before .before .blacken .ensures) (c .before .before .before .before .before .before .before .before .before .before .before .light .ensures .1 .1) (c .before .before .before .before .before .before .before .light2 .ensures .1 .1))))
+
+pub spread-spec : {M : Type 1} → statement M
+spread-spec =
+    tie.close
+    (tie.spec
+    light-requires
+    light-requires-2
+    blacken-requires
+    add-t14
+    newer-requires
+    same-length
+    returns)

@@ -1,0 +1,275 @@
+// Scan on plain numbers: runs of looks at once, and a gray node's four steps at once.
+use rules::Phase;
+use rules::Record;
+use strides::Ahead;
+ghost use mathlib.Core.Path.{_≡_};
+ghost use mathlib.Core.Bool.{true};
+ghost use Prim.Native.Nat.{ℕ, _+_, _-_, _<_, _≤_, _%_};
+ghost use lib.ListN.{length, getD, set};
+ghost use Rattle.rules.specs.Table.{state, shadeIn};
+ghost use Rattle.rules.specs.declared.Phase.the-variants.{Scan};
+ghost use Rattle.skim.specs.Stirs.{stop, stirs, Calm};
+ghost use Rattle.strides.specs.Leads.{Passes, Room, Leads, Fit};
+ghost use Rattle.mark.specs.Spots.{standing, Known, Goes, Ripe};
+
+// Where the marking stands: Scan i, k; nodes blackened; steps made here; how many colours stop a look, at most; and the node that was lit last.
+struct Spot {
+    i: usize,
+    k: usize,
+    dark: usize,
+    d: usize,
+    stirs: usize,
+    lit: usize,
+}
+
+fn standing(x: Record, s: Spot) -> Record
+    requires { ⌜ (s .i < 4096) × ((s .k ≤ 4096) × ((s .dark ≤ 4096) × (x .steps + s .d < 20000000))) ⌝ }
+    ensures { λ r. ⌜ r ≡ standing x s ⌝ }
+{
+    let owed = x.owed;
+    Record {
+        m: x.m,
+        r: x.r,
+        phase: Phase::Scan(s.i as u16, s.k as u16),
+        owed,
+        last: x.last,
+        steps: x.steps + s.d as u32,
+        cycles: x.cycles,
+        took: x.took,
+        blackened: s.dark as u16,
+        inuse: x.inuse,
+    }
+}
+
+// n modulo m, for n below two rounds.
+fn around(n: usize, m: usize) -> usize
+    requires { ⌜ n < m + m ⌝ }
+    ensures { λ r. ⌜ r ≡ n % m ⌝ }
+{
+    if n < m {
+        return n;
+    }
+    n - m
+}
+
+// How far it is from i to t, round the end of the table.
+fn gap(i: usize, t: usize, m: usize) -> usize
+    requires { ⌜ (i < m) × ((t < m) × (m ≤ 4096)) ⌝ }
+    ensures { λ e. ⌜ (i ≤ t → i + e ≡ t) × (t < i → i + e ≡ t + m) ⌝ }
+{
+    if i <= t {
+        return t - i;
+    }
+    t + m - i
+}
+
+// How many looks from i on, at most near, find nothing: none stops where no colour does, and only at the node lit last where that is the only one.
+fn ahead(colour: &[u8], m: usize, s: Spot, near: usize) -> usize
+    requires { ⌜ (length (now colour) ≡ m) × ((m ≤ 4096) × ((stirs (now colour) 0 m ≤ s .stirs) × ((s .i < m) × (s .lit < m)))) ⌝ }
+    ensures { λ e. ⌜ (e ≤ near) × Calm (now (colour .entry)) m (s .i) e ⌝ }
+{
+    let i = s.i;
+    let t = s.lit;
+    if s.stirs == 0 {
+        return near;
+    }
+    if s.stirs == 1 {
+        if colour[t] == 1 {
+            return strides::least(near, gap(i, t, m));
+        }
+    }
+    skim::calm(colour, i, strides::least(near, m - i))
+}
+
+// The looks that find nothing, all at once.
+fn hop(left: &[u16], right: &[u16], colour: &[u8], x: Record, cap: usize, s: Spot) -> Spot
+    requires { ⌜ (Known (now left) (now right) (now colour) x cap s) × (Room x cap) ⌝ }
+    ensures { λ r. ⌜ Goes (now (left .entry)) (now (right .entry)) (now (colour .entry)) x cap s (now (colour .entry)) r ⌝ }
+{
+    let m = x.m as usize;
+    let e = ahead(colour, m, s, strides::least(cap - s.d, s.k - 1));
+    Spot {
+        i: around(s.i + e, m),
+        k: s.k - e,
+        dark: s.dark,
+        d: s.d + e,
+        stirs: s.stirs,
+        lit: s.lit,
+    }
+}
+
+// Whether e is a good edge to a node with a good colour.
+fn edge_fit(m: u16, colour: &[u8], e: u16) -> bool
+    requires { ⌜ m ≤ length (now colour) ⌝ }
+    ensures { λ ok. ⌜ (ok ≡ true → Fit m (now (colour .entry)) e) ⌝ }
+{
+    if m <= e {
+        return false;
+    }
+    if e == 1 {
+        return false;
+    }
+    let at = e as usize;
+    colour[at] <= 2
+}
+
+// Whether node i is gray and its four steps can be made.
+fn ripe(left: &[u16], right: &[u16], colour: &[u8], x: Record, cap: usize, s: Spot) -> bool
+    requires { ⌜ (Known (now left) (now right) (now colour) x cap s) × (Room x cap) ⌝ }
+    ensures { λ ok. ⌜ (ok ≡ true → Ripe (now (left .entry)) (now (right .entry)) (now (colour .entry)) x cap s) ⌝ }
+{
+    if cap - s.d < 4 {
+        return false;
+    }
+    if x.m as usize <= s.dark {
+        return false;
+    }
+    let i = s.i;
+    if colour[i] != 1 {
+        return false;
+    }
+    if !edge_fit(x.m, colour, left[i]) {
+        return false;
+    }
+    edge_fit(x.m, colour, right[i])
+}
+
+// Shades a node; 1 where that makes it gray.
+fn light(colour: &mut [u8], n: u16) -> usize
+    requires { ⌜ n < length (now colour) ⌝ }
+    ensures { λ r. ⌜ (r ≤ 1) × ((now (colour .exit) ≡ shadeIn (now (colour .entry)) n) × (stirs (now (colour .exit)) 0 (length (now (colour .exit))) ≤ stirs (now (colour .entry)) 0 (length (now (colour .entry))) + r)) ⌝ }
+{
+    let at = n as usize;
+    if colour[at] == 0 {
+        colour[at] = 1;
+        return 1;
+    }
+    0
+}
+
+fn blacken(colour: &mut [u8], i: usize)
+    requires { ⌜ i < length (now colour) ⌝ }
+    ensures { λ _. ⌜ now (colour .exit) ≡ set (now (colour .entry)) i 2 ⌝ }
+{
+    colour[i] = 2;
+}
+
+// f where it was lit, else e.
+fn newer(e: u16, f: u16, b: usize) -> usize
+    ensures { λ r. ⌜ ((m : ℕ) → e < m → f < m → r < m) ⌝ }
+{
+    if b == 1 {
+        return f as usize;
+    }
+    e as usize
+}
+
+// How many nodes were lit, and one of them.
+struct Lit {
+    more: usize,
+    node: usize,
+}
+
+// Shades e and f, and makes i, which is gray, black.
+fn spread(colour: &mut [u8], i: usize, e: u16, f: u16) -> Lit
+    requires { ⌜ (i < length (now colour)) × ((e < length (now colour)) × ((f < length (now colour)) × (getD (now colour) i 0 ≡ 1))) ⌝ }
+    ensures { λ r. ⌜ (r .more ≤ 2) × (((m : ℕ) → e < m → f < m → r .node < m) × ((now (colour .exit) ≡ set (shadeIn (shadeIn (now (colour .entry)) e) f) i 2) × (stirs (now (colour .exit)) 0 (length (now (colour .exit))) + 1 ≤ stirs (now (colour .entry)) 0 (length (now (colour .entry))) + r .more))) ⌝ }
+{
+    let a = light(colour, e);
+    let b = light(colour, f);
+    blacken(colour, i);
+    Lit {
+        more: a + b,
+        node: newer(e, f, b),
+    }
+}
+
+// The four steps at a gray node.
+fn visit(left: &[u16], right: &[u16], colour: &mut [u8], x: Record, cap: usize, s: Spot) -> Spot
+    requires { ⌜ (Known (now left) (now right) (now colour) x cap s) × ((Room x cap) × (Ripe (now left) (now right) (now colour) x cap s)) ⌝ }
+    ensures { λ r. ⌜ Goes (now (left .entry)) (now (right .entry)) (now (colour .entry)) x cap s (now (colour .exit)) r ⌝ }
+{
+    let i = s.i;
+    let lit = spread(colour, i, left[i], right[i]);
+    Spot {
+        i: around(i + 1, x.m as usize),
+        k: x.m as usize,
+        dark: s.dark + 1,
+        d: s.d + 4,
+        stirs: s.stirs + lit.more - 1,
+        lit: lit.node,
+    }
+}
+
+// The looks that find nothing, and then the visit of a gray node where one is there.
+fn turn(left: &[u16], right: &[u16], colour: &mut [u8], x: Record, cap: usize, s: Spot) -> Spot
+    requires { ⌜ (Known (now left) (now right) (now colour) x cap s) × (Room x cap) ⌝ }
+    ensures { λ r. ⌜ Goes (now (left .entry)) (now (right .entry)) (now (colour .entry)) x cap s (now (colour .exit)) r ⌝ }
+{
+    let h = hop(left, right, colour, x, cap, s);
+    if !ripe(left, right, colour, x, cap, h) {
+        return h;
+    }
+    visit(left, right, colour, x, cap, h)
+}
+
+// Turns for as long as they lead on.
+fn marking(
+    left: &[u16],
+    right: &[u16],
+    colour: &mut [u8],
+    x: Record,
+    cap: usize,
+    from: Spot,
+) -> Spot
+    requires { ⌜ (Known (now left) (now right) (now colour) x cap from) × (Room x cap) ⌝ }
+    ensures { λ r. ⌜ Goes (now (left .entry)) (now (right .entry)) (now (colour .entry)) x cap from (now (colour .exit)) r ⌝ }
+{
+    let mut s = from;
+    while s.d < cap {
+        let t = turn(left, right, colour, x, cap, s);
+        if t.d == s.d {
+            return t;
+        }
+        s = t;
+    }
+    s
+}
+
+// How many colours stop a look: counted where many steps are to be made, else the most that can be.
+fn stirring(colour: &[u8], cap: usize) -> usize
+    ensures { λ r. ⌜ (stirs (now (colour .entry)) 0 (length (now (colour .entry))) ≤ r) × (r ≤ length (now (colour .entry))) ⌝ }
+{
+    if cap < colour.len() {
+        return colour.len();
+    }
+    skim::stirring(colour)
+}
+
+// Scan i, k: at most cap steps, none of them the last look.
+pub fn scans(
+    left: &[u16],
+    right: &[u16],
+    colour: &mut [u8],
+    x: Record,
+    i: u16,
+    k: u16,
+    cap: usize,
+) -> Ahead
+    requires { ⌜ (Passes (state (now left) (now right) (now colour) x)) × ((Room x cap) × (x .phase ≡ Scan i k)) ⌝ }
+    ensures { λ r. ⌜ (r .d ≤ cap) × Leads (state (now (left .entry)) (now (right .entry)) (now (colour .entry)) x) (r .d) (state (now (left .entry)) (now (right .entry)) (now (colour .exit)) (r .rec)) ⌝ }
+{
+    let from = Spot {
+        i: i as usize,
+        k: k as usize,
+        dark: x.blackened as usize,
+        d: 0,
+        stirs: stirring(colour, cap),
+        lit: 0,
+    };
+    let s = marking(left, right, colour, x, cap, from);
+    Ahead {
+        d: s.d,
+        rec: standing(x, s),
+    }
+}

@@ -1,0 +1,22 @@
+use Prim.Native.Nat.{_-_}
+use native.Mathlib.Omega.{arith}
+use borrow.Author.Needs.{needs}
+use Rattle.base.proofs.Tests.{tests}
+use Rattle.skim.specs.Stirs.{stop}
+use Rattle.skim.proofs.stops.Statement.{statement}
+use Rattle.skim.proofs.stops.Tie as tie
+
+returns : tie.Need-returns
+unfolding stop
+returns c = (omega arith, search (tests, needs) depth 12)
+
+returns-2 : tie.Need-returns-2
+unfolding stop
+returns-2 c = (omega arith, search (tests, needs) depth 12)
+
+returns-3 : tie.Need-returns-3
+unfolding stop
+returns-3 c = (omega arith, search (tests, needs) depth 12)
+
+pub stops-spec : {M : Type 1} → statement M
+stops-spec = tie.close (tie.spec returns returns-2 returns-3)

@@ -1,0 +1,6 @@
+pub mod Steady
+pub mod Refusals
+pub mod Strides
+pub mod Looks
+pub mod Visits
+pub mod Sweeps

@@ -1,0 +1,219 @@
+-- A step of a record that passes leaves one that passes again, but for the two counts that `fineOk` looks at.
+use Prim.Native.Nat.{ℕ, _+_, _-_, _%_, _≤_, _<_}
+use mathlib.Core.Path.{_≡_, refl, sym, _∙_}
+use mathlib.Core.Bool.{Bool, true, false, _||_, true≢false}
+use mathlib.Core.List.{List, [], _∷_}
+use lib.ListN.{length, set, length-set}
+use lib.Dec.{ltb, leb, eqb}
+use borrow.Author.Tests.{ltb-true, leb-true, leb-false, eqb-false}
+use native.Mathlib.Omega.{arith}
+use native.Mathlib.Nat.{mod-lt}
+use Rattle.base.specs.Choice.{every, pick}
+use Rattle.base.proofs.Tests.{each, split, pick-yes, pick-no, eq-no, lt-yes, le-yes, or-skip, every-skip, every-last, every-none}
+use Rattle.rules.specs.declared.Record.{Record}
+use Rattle.rules.specs.declared.Phase.{Phase}
+use Rattle.rules.specs.declared.Phase.the-variants.{Roots, Scan, Left, Right, Black, Append}
+use Rattle.rules.specs.Table.{State, Outcome, withEdge, shadeIn}
+use Rattle.rules.specs.Records.{withLast, moved, marked, rescan, closed, afterAppend}
+use Rattle.rules.specs.Check.{sizeOk, phaseOk, owedOk, lastOk, bound, countsOk, recordOk, checkOf, check}
+use Rattle.rules.specs.Collector.{shadeStep, afterRoots, scanStep, edgeStep, blackStep, append, appendWhite, appendStep, phaseStep}
+use Rattle.rules.specs.Facts.{Good, Inside}
+use Rattle.rules.proofs.Good.{passes, good, inside}
+use Rattle.strides.specs.Leads.{fineOk}
+
+-- y passes wherever x does, but for its steps and its blackened
+pub record Steady (x y : Record) : Type 0 where
+  pub m : y .m ≡ x .m
+  pub r : y .r ≡ x .r
+  pub owed : y .owed ≡ x .owed
+  pub phase : true ≡ phaseOk (x .m) (x .r) (y .phase)
+  pub last : true ≡ lastOk (x .m) (x .r) (y .last)
+  pub inuse : true ≡ leb (y .inuse) (x .m)
+  pub took : true ≡ leb (y .took) (bound (x .m) (x .r))
+
+pub record Kept (s : State) (o : Outcome) : Type 0 where
+  pub rec : Steady (s .rec) (o .state .rec)
+  pub lefts : length (o .state .left) ≡ length (s .left)
+  pub rights : length (o .state .right) ≡ length (s .right)
+  pub colours : length (o .state .colour) ≡ length (s .colour)
+
+shaded-length : (c : List ℕ) (n : ℕ) → length (shadeIn c n) ≡ length c
+unfolding shadeIn
+shaded-length c n = split (λ (l : List ℕ). length l ≡ length c) _ _ _ (λ h. length-set c n 1) (λ h. refl)
+
+or-no : (a b : Bool) → a || b ≡ false → a ≡ false
+or-no true b e = e
+or-no false b e = refl
+
+scan-ok : (m r i k : ℕ) → i < m → 1 ≤ k → k ≤ m → true ≡ phaseOk m r (Scan i k)
+unfolding phaseOk
+scan-ok m r i k h l u = every-skip _ _ _ (lt-yes _ _ h) (every-skip _ _ _ (le-yes _ _ l) (every-skip _ _ _ (le-yes _ _ u) every-none))
+
+root-ok : (m r i : ℕ) → i ≤ r + 1 → true ≡ phaseOk m r (Roots i)
+unfolding phaseOk
+root-ok m r i h = le-yes _ _ h
+
+append-ok : (m r i : ℕ) → i < m → true ≡ phaseOk m r (Append i)
+unfolding phaseOk
+append-ok m r i h = lt-yes _ _ h
+
+left-ok : (m r i : ℕ) → i < m → true ≡ phaseOk m r (Left i)
+unfolding phaseOk
+left-ok m r i h = lt-yes _ _ h
+
+right-ok : (m r i : ℕ) → i < m → true ≡ phaseOk m r (Right i)
+unfolding phaseOk
+right-ok m r i h = lt-yes _ _ h
+
+black-ok : (m r i : ℕ) → i < m → true ≡ phaseOk m r (Black i)
+unfolding phaseOk
+black-ok m r i h = lt-yes _ _ h
+
+root-next : (m r i : ℕ) → 3 ≤ m → i ≤ r + 1 → true ≡ phaseOk m r (afterRoots m r i)
+unfolding afterRoots
+root-next m r i h k =
+    split (λ (p : Phase). true ≡ phaseOk m r p) _ _ _ (λ e. scan-ok m r 0 m (omega arith) (omega arith) (omega arith))
+    (λ e. let q = eqb-false i (r + 1) e in root-ok m r (i + 1) (omega arith))
+
+last-ok : (m r n : ℕ) → r + 1 < n → n < m → true ≡ lastOk m r n
+unfolding lastOk
+last-ok m r n h k =
+    or-skip _ _ _ (eq-no n 1 (λ z. omega arith)) (every-skip _ _ _ (le-yes (r + 2) n (omega arith)) (every-skip _ _ _ (lt-yes _ _ k) every-none))
+
+-- a record that passes
+record Passed (x : Record) : Type 0 where
+  low : 3 ≤ x .m
+  self : Steady x x
+  blackened : x .blackened ≤ x .m
+  steps : x .steps < bound (x .m) (x .r)
+
+passed : (ll rl cl : ℕ) (x : Record) → 0 ≡ checkOf ll rl cl x → Passed x
+unfolding recordOk countsOk
+passed ll rl cl x e =
+    let g = good ll rl cl x e in
+    let f = each _ (passes ll rl cl x e .1) in
+    let n = each _ (sym (f .1 .1 .1 .0)) in
+    record {
+      low = g .m-low;
+      self = record { m = refl; r = refl; owed = refl; phase = sym (f .0); last = sym (f .1 .1 .0); inuse = sym (n .1 .0); took = sym (n .1 .1 .1 .0) };
+      blackened = g .blackened;
+      steps = ltb-true _ _ (n .1 .1 .0);
+    }
+
+pub steps-below : (ll rl cl : ℕ) (x : Record) → 0 ≡ checkOf ll rl cl x → x .steps < bound (x .m) (x .r)
+steps-below ll rl cl x e = passed ll rl cl x e .steps
+
+module _ (s : State) (g : Passed (s .rec)) where
+  abbrev x : Record
+  x = s .rec
+
+  moved-steady : (p : Phase) → true ≡ phaseOk (x .m) (x .r) p → Steady x (moved x p)
+  moved-steady p h = record { m = refl; r = refl; owed = refl; phase = h; last = g .self .last; inuse = g .self .inuse; took = g .self .took }
+
+  marked-steady : Steady x (marked x)
+  marked-steady =
+      record { m = refl; r = refl; owed = refl; phase = append-ok _ _ _ (omega (arith, g)); last = g .self .last; inuse = le-yes _ _ (g .blackened); took = g .self .took }
+
+  rescan-steady : (i : ℕ) → i < x .m → Steady x (rescan x i)
+  rescan-steady i h =
+      record { m = refl; r = refl; owed = refl; phase = scan-ok _ _ _ _ (mod-lt (i + 1) (omega arith)) (omega arith) (omega arith); last = g .self .last; inuse = g .self .inuse; took = g .self .took }
+
+  after-steady : (i n : ℕ) → i < x .m → true ≡ lastOk (x .m) (x .r) n → Steady x (afterAppend (withLast x n) i)
+  unfolding afterAppend
+  after-steady i n h k =
+      split (Steady x) _ _ _
+      (λ e. record { m = refl; r = refl; owed = refl; phase = root-ok (x .m) (x .r) 0 (omega arith); last = k; inuse = g .self .inuse; took = le-yes (x .steps + 1) (bound (x .m) (x .r)) (omega (arith, g)) })
+      (λ e. let q = eqb-false (i + 1) (x .m) e in record { m = refl; r = refl; owed = refl; phase = append-ok _ _ _ (omega arith); last = k; inuse = g .self .inuse; took = g .self .took })
+
+  abbrev K : Outcome → Type 0
+  K = Kept s
+
+  shade-kept : (n : ℕ) (p : Phase) → true ≡ phaseOk (x .m) (x .r) p → K (shadeStep s n p)
+  unfolding shadeStep
+  shade-kept n p h =
+      split K _ _ _ (λ e. record { rec = g .self; lefts = refl; rights = refl; colours = refl })
+      (λ e. record { rec = moved-steady p h; lefts = refl; rights = refl; colours = shaded-length (s .colour) n })
+
+  edge-kept : (i e : ℕ) (p : Phase) → true ≡ phaseOk (x .m) (x .r) p → K (edgeStep s i e p)
+  unfolding edgeStep
+  edge-kept i e p h = split K _ _ _ (λ b. record { rec = g .self; lefts = refl; rights = refl; colours = refl }) (λ b. shade-kept e p h)
+
+  scan-kept : (i k : ℕ) → i < x .m → 1 ≤ k → k ≤ x .m → K (scanStep s i k)
+  unfolding scanStep
+  scan-kept i k h l u =
+      split K _ _ _ (λ e. record { rec = g .self; lefts = refl; rights = refl; colours = refl }) (λ e.
+      split K _ _ _ (λ e. record { rec = moved-steady _ (left-ok _ _ _ h); lefts = refl; rights = refl; colours = refl }) (λ e.
+      split K _ _ _ (λ e. record { rec = marked-steady; lefts = refl; rights = refl; colours = refl }) (λ e.
+      let q = eqb-false k 1 e in
+      record { rec = moved-steady _ (scan-ok _ _ _ _ (mod-lt (i + 1) (omega arith)) (omega arith) (omega arith)); lefts = refl; rights = refl; colours = refl })))
+
+  black-kept : (i : ℕ) → i < x .m → K (blackStep s i)
+  unfolding blackStep
+  black-kept i h = record { rec = rescan-steady i h; lefts = refl; rights = refl; colours = length-set (s .colour) i 2 }
+
+  white-kept : (i : ℕ) → i < x .m → K (appendWhite s i)
+  unfolding appendWhite append withEdge pick
+  white-kept i h =
+      split K _ _ _ (λ e. record { rec = g .self; lefts = refl; rights = refl; colours = refl }) (λ e.
+      let q = leb-false i (x .r + 1) (or-no _ (eqb i (x .last)) e) in
+      record { rec = after-steady i i h (last-ok _ _ _ (omega arith) h); lefts = length-set (set (s .left) i 0) (x .last) i ∙ length-set (s .left) i 0; rights = length-set (s .right) i 0; colours = refl })
+
+  append-kept : (i : ℕ) → i < x .m → K (appendStep s i)
+  unfolding appendStep
+  append-kept i h =
+      split K _ _ _ (λ e. record { rec = after-steady i (x .last) h (g .self .last); lefts = refl; rights = refl; colours = length-set (s .colour) i 0 }) (λ e.
+      split K _ _ _ (λ e. white-kept i h) (λ e. record { rec = g .self; lefts = refl; rights = refl; colours = refl }))
+
+  phase-kept : (p : Phase) → Inside (x .m) (x .r) p → K (phaseStep s p)
+  unfolding phaseStep
+  phase-kept (Roots i) h = shade-kept i _ (root-next _ _ i (g .low) h)
+  phase-kept (Scan i k) h = scan-kept i k (h .0) (h .1 .0) (h .1 .1)
+  phase-kept (Left i) h = edge-kept i _ _ (right-ok _ _ i h)
+  phase-kept (Right i) h = edge-kept i _ _ (black-ok _ _ i h)
+  phase-kept (Black i) h = black-kept i h
+  phase-kept (Append i) h = append-kept i h
+
+pub kept : (s : State) → 0 ≡ check s → Kept s (phaseStep s (s .rec .phase))
+kept s e = phase-kept s (passed _ _ _ (s .rec) e) (s .rec .phase) (inside _ _ _ (s .rec) e)
+
+-- the code of what a step leaves, by the two counts
+and-swap : (a b c d : Bool) → true ≡ b → true ≡ d → every (a ∷ b ∷ c ∷ d ∷ []) ≡ every (a ∷ c ∷ [])
+unfolding every
+and-swap a true true true h k = refl
+and-swap a true false true h k = refl
+and-swap a true true false h k = absurd (true≢false k)
+and-swap a true false false h k = absurd (true≢false k)
+and-swap a false c d h k = absurd (true≢false h)
+
+module _ (s : State) (e : 0 ≡ check s) (o : Outcome) (k : Kept s o) where
+  abbrev y : Record
+  y = o .state .rec
+
+  sizes-kept : true ≡ sizeOk (y .m) (y .r) (length (o .state .left)) (length (o .state .right)) (length (o .state .colour))
+  sizes-kept = rw (k .rec .m, k .rec .r, k .lefts, k .rights, k .colours) (passes _ _ _ (s .rec) e .0)
+
+  owed-kept : true ≡ owedOk (y .m) (y .owed)
+  unfolding recordOk
+  owed-kept = rw (k .rec .m, k .rec .owed) (sym (each _ (passes _ _ _ (s .rec) e .1) .1 .0))
+
+  phase-still : true ≡ phaseOk (y .m) (y .r) (y .phase)
+  phase-still = rw (k .rec .m, k .rec .r) (k .rec .phase)
+
+  last-still : true ≡ lastOk (y .m) (y .r) (y .last)
+  last-still = rw (k .rec .m, k .rec .r) (k .rec .last)
+
+  counts-fine : countsOk y (bound (y .m) (y .r)) ≡ fineOk (bound (s .rec .m) (s .rec .r)) y
+  unfolding countsOk fineOk
+  counts-fine = rw (k .rec .m, k .rec .r) (and-swap _ _ _ _ (k .rec .inuse) (k .rec .took))
+
+  record-fine : (z : Bool) → z ≡ fineOk (bound (s .rec .m) (s .rec .r)) y → z ≡ recordOk y
+  unfolding recordOk
+  record-fine z h = every-skip _ _ _ phase-still (every-skip _ _ _ owed-kept (every-skip _ _ _ last-still (every-last _ _ (h ∙ sym counts-fine))))
+
+  pub passes-again : true ≡ fineOk (bound (s .rec .m) (s .rec .r)) y → 0 ≡ check (o .state)
+  unfolding checkOf
+  passes-again h = pick-yes _ _ _ _ sizes-kept (pick-yes _ _ _ _ (record-fine true h) refl)
+
+  pub now-spoilt : false ≡ fineOk (bound (s .rec .m) (s .rec .r)) y → 2 ≡ check (o .state)
+  unfolding checkOf
+  now-spoilt h = pick-yes _ _ _ _ sizes-kept (pick-no _ _ _ _ (record-fine false h) refl)

@@ -1,0 +1,178 @@
+// Roots and Append on plain numbers, up to the last step of each.
+use rules::Phase;
+use rules::Record;
+use strides::Ahead;
+ghost use mathlib.Core.Path.{_≡_};
+ghost use Prim.Native.Nat.{ℕ, _+_, _-_, _<_, _≤_};
+ghost use lib.ListN.{length, getD};
+ghost use Rattle.rules.specs.Table.{state};
+ghost use Rattle.rules.specs.declared.Phase.the-variants.{Roots, Append};
+ghost use Rattle.strides.specs.Leads.{Passes, Room, Leads};
+ghost use Rattle.sweep.specs.Rows.{rooted, Shades, swept};
+
+// Where the appending stands: Append i, the end of the free list, and the steps made here.
+struct Row {
+    i: usize,
+    last: usize,
+    d: usize,
+}
+
+// Shades the nodes from i on, at most cap of them, up to a bad colour, and counts them.
+fn shading(colour: &mut [u8], i: usize, cap: usize) -> usize
+    requires { ⌜ (i + cap ≤ length (now colour)) × (length (now colour) ≤ 4096) ⌝ }
+    ensures { λ d. ⌜ (d ≤ cap) × Shades (now (colour .entry)) i cap d (now (colour .exit)) ⌝ }
+{
+    let mut d = 0;
+    while d < cap {
+        if 2 < colour[i + d] {
+            return d;
+        }
+        rules::shade_node(colour, (i + d) as u16);
+        d += 1;
+    }
+    d
+}
+
+fn rooted(x: Record, i: usize, d: usize) -> Record
+    requires { ⌜ (i + d < 4096) × (x .steps + d < 20000000) ⌝ }
+    ensures { λ r. ⌜ r ≡ rooted x i d ⌝ }
+{
+    let owed = x.owed;
+    Record {
+        m: x.m,
+        r: x.r,
+        phase: Phase::Roots((i + d) as u16),
+        owed,
+        last: x.last,
+        steps: x.steps + d as u32,
+        cycles: x.cycles,
+        took: x.took,
+        blackened: x.blackened,
+        inuse: x.inuse,
+    }
+}
+
+fn swept(x: Record, s: Row) -> Record
+    requires { ⌜ (s .i < 4096) × ((s .last < 4096) × (x .steps + s .d < 20000000)) ⌝ }
+    ensures { λ r. ⌜ r ≡ swept x s ⌝ }
+{
+    let owed = x.owed;
+    Record {
+        m: x.m,
+        r: x.r,
+        phase: Phase::Append(s.i as u16),
+        owed,
+        last: s.last as u16,
+        steps: x.steps + s.d as u32,
+        cycles: x.cycles,
+        took: x.took,
+        blackened: x.blackened,
+        inuse: x.inuse,
+    }
+}
+
+// Roots i: at most cap steps, none of them that of the last root.
+pub fn roots(left: &[u16], right: &[u16], colour: &mut [u8], x: Record, i: u16, cap: usize) -> Ahead
+    requires { ⌜ (Passes (state (now left) (now right) (now colour) x)) × ((Room x cap) × (x .phase ≡ Roots i)) ⌝ }
+    ensures { λ r. ⌜ (r .d ≤ cap) × Leads (state (now (left .entry)) (now (right .entry)) (now (colour .entry)) x) (r .d) (state (now (left .entry)) (now (right .entry)) (now (colour .exit)) (r .rec)) ⌝ }
+{
+    let from = i as usize;
+    let near = strides::least(cap, x.r as usize + 1 - from);
+    let d = shading(colour, from, near);
+    Ahead {
+        d,
+        rec: rooted(x, from, d),
+    }
+}
+
+// A white node i goes to the end of the free list; s where that is refused.
+fn append_white(left: &mut [u16], right: &mut [u16], colour: &[u8], x: Record, s: Row) -> Row
+    requires { ⌜ (Passes (state (now left) (now right) (now colour) (swept x s))) × ((Room x (s .d + 1)) × ((s .i + 1 < x .m) × (getD (now colour) (s .i) 0 ≡ 0))) ⌝ }
+    ensures { λ r. ⌜ (r .d ≤ s .d + 1) × ((s .d ≤ r .d) × Leads (state (now (left .entry)) (now (right .entry)) (now (colour .entry)) (swept x s)) (r .d - s .d) (state (now (left .exit)) (now (right .exit)) (now (colour .entry)) (swept x r))) ⌝ }
+{
+    let i = s.i;
+    let last = s.last;
+    if i <= x.r as usize + 1 {
+        return s;
+    }
+    if i == last {
+        return s;
+    }
+    left[i] = 0;
+    right[i] = 0;
+    left[last] = i as u16;
+    Row {
+        i: i + 1,
+        last: i,
+        d: s.d + 1,
+    }
+}
+
+// One step of Append; s where it is refused, or where it is the last node's.
+fn append_one(left: &mut [u16], right: &mut [u16], colour: &mut [u8], x: Record, s: Row) -> Row
+    requires { ⌜ (Passes (state (now left) (now right) (now colour) (swept x s))) × (Room x (s .d + 1)) ⌝ }
+    ensures { λ r. ⌜ (r .d ≤ s .d + 1) × ((s .d ≤ r .d) × Leads (state (now (left .entry)) (now (right .entry)) (now (colour .entry)) (swept x s)) (r .d - s .d) (state (now (left .exit)) (now (right .exit)) (now (colour .exit)) (swept x r))) ⌝ }
+{
+    let i = s.i;
+    if i + 1 == x.m as usize {
+        return s;
+    }
+    if colour[i] == 2 {
+        colour[i] = 0;
+        return Row {
+            i: i + 1,
+            last: s.last,
+            d: s.d + 1,
+        };
+    }
+    if colour[i] == 0 {
+        return append_white(left, right, colour, x, s);
+    }
+    s
+}
+
+fn appending(
+    left: &mut [u16],
+    right: &mut [u16],
+    colour: &mut [u8],
+    x: Record,
+    cap: usize,
+    from: Row,
+) -> Row
+    requires { ⌜ (Passes (state (now left) (now right) (now colour) (swept x from))) × ((Room x cap) × (from .d ≤ cap)) ⌝ }
+    ensures { λ r. ⌜ (r .d ≤ cap) × ((from .d ≤ r .d) × Leads (state (now (left .entry)) (now (right .entry)) (now (colour .entry)) (swept x from)) (r .d - from .d) (state (now (left .exit)) (now (right .exit)) (now (colour .exit)) (swept x r))) ⌝ }
+{
+    let mut s = from;
+    while s.d < cap {
+        let t = append_one(left, right, colour, x, s);
+        if t.d == s.d {
+            return t;
+        }
+        s = t;
+    }
+    s
+}
+
+// Append i: at most cap steps, none of them that of the last node.
+pub fn appends(
+    left: &mut [u16],
+    right: &mut [u16],
+    colour: &mut [u8],
+    x: Record,
+    i: u16,
+    cap: usize,
+) -> Ahead
+    requires { ⌜ (Passes (state (now left) (now right) (now colour) x)) × ((Room x cap) × (x .phase ≡ Append i)) ⌝ }
+    ensures { λ r. ⌜ (r .d ≤ cap) × Leads (state (now (left .entry)) (now (right .entry)) (now (colour .entry)) x) (r .d) (state (now (left .exit)) (now (right .exit)) (now (colour .exit)) (r .rec)) ⌝ }
+{
+    let from = Row {
+        i: i as usize,
+        last: x.last as usize,
+        d: 0,
+    };
+    let s = appending(left, right, colour, x, cap, from);
+    Ahead {
+        d: s.d,
+        rec: swept(x, s),
+    }
+}
