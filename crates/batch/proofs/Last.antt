@@ -1,10 +1,7 @@
 -- A run of steps is a schedule of collector steps.
 use Prim.Native.Nat.{ℕ, zero, suc, _+_}
 use mathlib.Core.Path.{_≡_, refl, sym, ap, _∙_}
-use mathlib.Core.Bool.{true, false}
-use lib.Dec.{eqb}
 use borrow.Author.Tests.{eqb-true}
-use Rattle.base.specs.Choice.{pick}
 use Rattle.base.proofs.Tests.{split, pick-yes, pick-no, eq-yes, eq-no}
 use Rattle.rules.specs.declared.Answer.{Answer}
 use Rattle.rules.specs.declared.Answer.the-variants.{Named, Refused}
@@ -15,7 +12,8 @@ use Rattle.rules.specs.Schedules.{followed, follow, schedule, collects}
 use Rattle.strides.specs.Leads.{Lasted, lasted, more, Passes}
 use Rattle.batch.specs.Last.{answering, lastAnswer}
 
-follows : (n e : ℕ) (a : Answer) (s : State) → codeOf a ≡ 0 → followed (more n e a s .done) (codeOf (more n e a s .answer)) (more n e a s .state) ≡ follow (collects n) e s
+follows : (n e : ℕ) (a : Answer) (s : State) → codeOf a ≡ 0
+    → followed (more n e a s .done) (codeOf (more n e a s .answer)) (more n e a s .state) ≡ follow (collects n) e s
 unfolding more follow collects
 follows zero e a s h = rw h
 follows (suc n) e a s h =
@@ -32,7 +30,8 @@ answers (suc n) e a s =
     (λ q. pick-no _ _ _ _ (sym q) refl)
 
 -- n steps from a record that passes
-pub scheduled : (n d : ℕ) (a : Answer) (s t : State) → Passes s → lasted d a t ≡ more n 0 (Named 0) s → (followed d (codeOf a) t ≡ schedule (collects n) s) × (a ≡ lastAnswer n s)
+pub scheduled : (n d : ℕ) (a : Answer) (s t : State) → Passes s → lasted d a t ≡ more n 0 (Named 0) s
+    → (followed d (codeOf a) t ≡ schedule (collects n) s) × (a ≡ lastAnswer n s)
 unfolding schedule lastAnswer
 scheduled n d a s t p w =
     let z = eq-yes (check s) 0 (sym (p .code)) in

@@ -1,11 +1,9 @@
 -- Many collector steps are a part of a run: the state that they leave is that of a run of so many steps as were done.
 use Prim.Native.Nat.{ℕ, zero, suc, _+_, _≤_}
-use mathlib.Core.Path.{_≡_, refl, sym}
+use mathlib.Core.Path.{_≡_, refl}
 use native.Mathlib.Omega.{arith}
-use Rattle.base.specs.Choice.{pick}
 use Rattle.base.proofs.Tests.{split}
 use Rattle.rules.specs.Table.{State}
-use Rattle.rules.specs.Check.{check}
 use Rattle.rules.specs.Steps.{step, collecting, run}
 use Rattle.rules.specs.Schedules.{Followed, follow, schedule, collects}
 

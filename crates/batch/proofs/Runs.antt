@@ -1,15 +1,14 @@
 -- A turn is a stride and a step; a run is its turns.
 use Prim.Native.Nat.{ℕ, zero, suc, _+_, _-_, _≤_, _<_}
 use mathlib.Core.Path.{_≡_, refl, sym, ap, _∙_}
-use mathlib.Core.Bool.{true, false}
+use mathlib.Core.Bool.{false}
 use mathlib.Core.List.{List}
 use lib.ListN.{length}
 use native.Mathlib.Omega.{arith}
-use Rattle.base.specs.Choice.{pick}
-use Rattle.base.proofs.Tests.{pick-yes, pick-no, eq-no}
+use Rattle.base.proofs.Tests.{pick-no, eq-no}
 use Rattle.rules.specs.declared.Record.{Record}
 use Rattle.rules.specs.declared.Answer.{Answer}
-use Rattle.rules.specs.declared.Answer.the-variants.{Named, Refused}
+use Rattle.rules.specs.declared.Answer.the-variants.{Refused}
 use Rattle.rules.specs.Table.{State, Outcome, state, refuse}
 use Rattle.rules.specs.Check.{bound, check}
 use Rattle.rules.specs.Collector.{phaseStep, collect}
@@ -17,7 +16,7 @@ use Rattle.rules.specs.Steps.{step, collecting, codeOf}
 use Rattle.rules.specs.Facts.{Good, Inside}
 use Rattle.rules.proofs.Good.{good, inside}
 use Rattle.rules.proofs.Laws.{step-collecting, unless-refused}
-use Rattle.strides.specs.Leads.{Lasted, lasted, more, Passes, Room, Leads, fineOk}
+use Rattle.strides.specs.Leads.{lasted, more, Passes, Room, Leads, fineOk}
 use Rattle.strides.proofs.Steady.{Kept, kept, steps-below, passes-again, now-spoilt}
 use Rattle.strides.proofs.Refusals.{back}
 use Rattle.strides.proofs.Strides.{step-is, done-on}
@@ -37,7 +36,8 @@ refused-at : (s : State) (o : Outcome) (n e : ℕ) (a : Answer) → o ≡ step c
 unfolding more
 refused-at s o n e a w z = rw (← w) (sym (pick-no _ _ _ _ (eq-no _ _ z) refl))
 
-pub turned : (b : ℕ) (s t : State) (d : ℕ) (o : Outcome) → b ≡ bound (s .rec .m) (s .rec .r) → Leads s d t → o ≡ phaseStep t (t .rec .phase) → Turn b s d (o .answer) (o .state)
+pub turned : (b : ℕ) (s t : State) (d : ℕ) (o : Outcome) → b ≡ bound (s .rec .m) (s .rec .r) → Leads s d t → o ≡ phaseStep t (t .rec .phase)
+    → Turn b s d (o .answer) (o .state)
 turned b s t d o q p w =
     let k : Kept t o = rw w (kept t (p .passes .code)) in
     let v = w ∙ step-is t (p .passes) in
@@ -74,7 +74,8 @@ module _ (b : ℕ) (s : State) (d : ℕ) (a : Answer) (t : State) (p : Turn b s 
   pub gone-on : (n e k : ℕ) (a₀ : Answer) → n ≡ d + suc k → codeOf a ≡ 0 → more n e a₀ s ≡ more k (e + d + 1) a t
   gone-on n e k a₀ h f = rw h (p .goes f k e a₀)
 
-  pub spoilt-end : false ≡ fineOk b (t .rec) → codeOf a ≡ 0 → (n e : ℕ) (a₀ r : Answer) → d < n - e → (e + d + 1 < n → r ≡ Refused 2 0) → (n ≤ e + d + 1 → r ≡ a) → lasted (e + d + 1) r t ≡ more (n - e) e a₀ s
+  pub spoilt-end : false ≡ fineOk b (t .rec) → codeOf a ≡ 0 → (n e : ℕ) (a₀ r : Answer) → d < n - e → (e + d + 1 < n → r ≡ Refused 2 0)
+      → (n ≤ e + d + 1 → r ≡ a) → lasted (e + d + 1) r t ≡ more (n - e) e a₀ s
   spoilt-end h f n e a₀ r l v w =
       spoilt-run t (p .spoilt h) (n - (e + d + 1)) (e + d + 1) a r (λ q. v (omega arith)) (λ q. w (omega arith))
       ∙ sym (gone-on (n - e) e (n - (e + d + 1)) a₀ (omega arith) f)

@@ -4,7 +4,7 @@ use rules::Phase;
 use rules::Record;
 use strides::Ahead;
 ghost use mathlib.Core.Path.{_≡_};
-ghost use Prim.Native.Nat.{ℕ, _+_, _<_, _≤_};
+ghost use Prim.Native.Nat.{_+_, _<_, _≤_};
 ghost use Rattle.rules.specs.Table.{state};
 ghost use Rattle.rules.specs.Check.{bound};
 ghost use Rattle.rules.specs.Schedules.{schedule, collects};

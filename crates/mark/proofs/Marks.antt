@@ -1,23 +1,20 @@
 -- Looks and visits put together.
 use Prim.Native.Nat.{ℕ, _+_, _-_, _%_, _≤_, _<_}
-use mathlib.Core.Path.{_≡_, refl, sym, ap, _∙_}
-use mathlib.Core.Bool.{Bool, true, false}
+use mathlib.Core.Path.{_≡_, refl}
 use mathlib.Core.List.{List}
 use lib.ListN.{length, getD, set, length-set}
 use lib.Seq.{getD-set-other}
-use lib.Dec.{eqb}
-use borrow.Author.Tests.{eqb-true, eqb-false}
+use borrow.Author.Tests.{eqb-true}
 use native.Mathlib.Omega.{arith}
 use Rattle.base.specs.Choice.{pick}
 use Rattle.base.proofs.Tests.{split}
 use Rattle.rules.specs.declared.Record.{Record}
 use Rattle.rules.specs.declared.Phase.the-variants.{Scan}
 use Rattle.rules.specs.Table.{State, state, shadeIn}
-use Rattle.rules.specs.Check.{bound}
 use Rattle.rules.proofs.Good.{good, inside}
 use Rattle.skim.specs.Stirs.{stop, stirs, Calm}
-use Rattle.skim.proofs.Counts.{changed, counts, stirs-most}
-use Rattle.strides.specs.Leads.{Passes, Room, Leads, Fit}
+use Rattle.skim.proofs.Counts.{changed, counts}
+use Rattle.strides.specs.Leads.{Passes, Room, Leads}
 use Rattle.strides.proofs.Strides.{stay, on}
 use Rattle.strides.proofs.Looks.{looks}
 use Rattle.strides.proofs.Visits as strides
@@ -48,14 +45,17 @@ at l k c x s p =
 pub stays : (l k c : List ℕ) (x : Record) (cap : ℕ) (s : Spot) → Known l k c x cap s → Goes l k c x cap s c s
 stays l k c x cap s p = record { low = omega arith; leads = stay _ _ (omega arith) (p .passes); known = p }
 
-pub goes-on : (l k c : List ℕ) (x : Record) (cap : ℕ) (s : Spot) (c′ : List ℕ) (t : Spot) (c″ : List ℕ) (r : Spot) → Goes l k c x cap s c′ t → Goes l k c′ x cap t c″ r → Goes l k c x cap s c″ r
+pub goes-on : (l k c : List ℕ) (x : Record) (cap : ℕ) (s : Spot) (c′ : List ℕ) (t : Spot) (c″ : List ℕ) (r : Spot) → Goes l k c x cap s c′ t
+    → Goes l k c′ x cap t c″ r → Goes l k c x cap s c″ r
 goes-on l k c x cap s c′ t c″ r p q =
     let a = p .low in
     let b = q .low in
     record { low = omega arith; leads = on _ _ _ _ _ _ (p .low) (q .low) (p .leads) (q .leads); known = q .known }
 
 -- e looks
-pub hops : (l k c : List ℕ) (x : Record) (cap : ℕ) (s r : Spot) (e : ℕ) → Known l k c x cap s → Room x cap → Calm c (x .m) (s .i) e → e < s .k → s .d + e ≤ cap → r .i ≡ (s .i + e) % x .m → r .k ≡ s .k - e → r .dark ≡ s .dark → r .d ≡ s .d + e → r .stirs ≡ s .stirs → r .lit ≡ s .lit → Goes l k c x cap s c r
+pub hops : (l k c : List ℕ) (x : Record) (cap : ℕ) (s r : Spot) (e : ℕ) → Known l k c x cap s → Room x cap → Calm c (x .m) (s .i) e → e < s .k
+    → s .d + e ≤ cap → r .i ≡ (s .i + e) % x .m → r .k ≡ s .k - e → r .dark ≡ s .dark → r .d ≡ s .d + e → r .stirs ≡ s .stirs → r .lit ≡ s .lit
+    → Goes l k c x cap s c r
 unfolding standing
 hops l k c x cap s r e p b m h q i′ k′ dark′ d′ stirs′ lit′ =
     let z = b .steps in
@@ -86,7 +86,9 @@ gray-kept c n i h = split (λ (a : List ℕ). getD a i 0 ≡ 1) _ _ _ (λ q. rw 
     differ z w = let y : getD c i 0 ≡ 0 = rw z w in omega arith
 
 -- the four steps at a gray node leave one colour fewer that stops a look, but for those that they light
-pub few-left : (c c₁ c₂ c₃ : List ℕ) (e f i a b : ℕ) → length c₁ ≡ length c → length c₂ ≡ length c → i < length c → getD c i 0 ≡ 1 → c₁ ≡ shadeIn c e → c₂ ≡ shadeIn c₁ f → c₃ ≡ set c₂ i 2 → stirs c₁ 0 (length c₁) ≤ stirs c 0 (length c) + a → stirs c₂ 0 (length c₂) ≤ stirs c₁ 0 (length c₁) + b → stirs c₃ 0 (length c₃) + 1 ≤ stirs c 0 (length c) + (a + b)
+pub few-left : (c c₁ c₂ c₃ : List ℕ) (e f i a b : ℕ) → length c₁ ≡ length c → length c₂ ≡ length c → i < length c → getD c i 0 ≡ 1 → c₁ ≡ shadeIn c e
+    → c₂ ≡ shadeIn c₁ f → c₃ ≡ set c₂ i 2 → stirs c₁ 0 (length c₁) ≤ stirs c 0 (length c) + a → stirs c₂ 0 (length c₂) ≤ stirs c₁ 0 (length c₁) + b
+    → stirs c₃ 0 (length c₃) + 1 ≤ stirs c 0 (length c) + (a + b)
 unfolding stop pick
 few-left c c₁ c₂ c₃ e f i a b n₁ n₂ h g p q t u v =
     let g₁ : getD c₁ i 0 ≡ 1 = rw p (gray-kept c e i g) in
@@ -104,7 +106,9 @@ module _ (l k c : List ℕ) (x : Record) (cap : ℕ) (s : Spot) (p : Known l k c
       let h = rw (z, w .gray) at (counts c 0 (x .m) (s .i) (g .i)) in
       omega (arith, p .few)
 
-  pub visits : (b : Room x cap) (r : Spot) (c′ : List ℕ) (n : ℕ) → c′ ≡ set (shadeIn (shadeIn c (getD l (s .i) 0)) (getD k (s .i) 0)) (s .i) 2 → length c′ ≡ length c → stirs c′ 0 (length c′) + 1 ≤ stirs c 0 (length c) + n → n ≤ 2 → r .i ≡ (s .i + 1) % x .m → r .k ≡ x .m → r .dark ≡ s .dark + 1 → r .d ≡ s .d + 4 → r .stirs ≡ s .stirs + n - 1 → r .lit < x .m → Goes l k c x cap s c′ r
+  pub visits : (b : Room x cap) (r : Spot) (c′ : List ℕ) (n : ℕ) → c′ ≡ set (shadeIn (shadeIn c (getD l (s .i) 0)) (getD k (s .i) 0)) (s .i) 2
+      → length c′ ≡ length c → stirs c′ 0 (length c′) + 1 ≤ stirs c 0 (length c) + n → n ≤ 2 → r .i ≡ (s .i + 1) % x .m → r .k ≡ x .m
+      → r .dark ≡ s .dark + 1 → r .d ≡ s .d + 4 → r .stirs ≡ s .stirs + n - 1 → r .lit < x .m → Goes l k c x cap s c′ r
   unfolding standing
   visits b r c′ n e len f q i′ k′ dark′ d′ stirs′ lit′ =
       let g = at l k c x s (p .passes) in

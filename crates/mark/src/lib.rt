@@ -70,6 +70,9 @@ fn ahead(colour: &[u8], m: usize, s: Spot, near: usize) -> usize
 {
     let i = s.i;
     let t = s.lit;
+    if skim::stops(colour[i]) != 0 {
+        return 0;
+    }
     if s.stirs == 0 {
         return near;
     }

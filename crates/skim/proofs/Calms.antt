@@ -1,6 +1,6 @@
 -- Runs of colours that a look passes over, round the end of the table.
 use Prim.Native.Nat.{ℕ, _+_, _-_, _%_, _≤_, _<_}
-use mathlib.Core.Path.{_≡_, refl, sym, _∙_}
+use mathlib.Core.Path.{_≡_, refl, _∙_}
 use mathlib.Core.Bool.{Bool, true, false}
 use mathlib.Core.List.{List}
 use lib.ListN.{length, getD}
@@ -13,6 +13,9 @@ use Rattle.skim.proofs.Counts.{counts, alone}
 
 pub cut : (c : List ℕ) (m i d e : ℕ) → e ≤ d → Calm c m i d → Calm c m i e
 cut c m i d e h p = record { none = λ j k. p .none j (omega arith) }
+
+pub nowhere : (c : List ℕ) (m i : ℕ) → Calm c m i 0
+nowhere c m i = record { none = λ j h. absurd (omega arith) }
 
 -- a number below two rounds
 pub round : (m n : ℕ) → m ≤ n → n < m + m → n % m ≡ n - m
@@ -29,7 +32,8 @@ everywhere c m i d h k =
     record { none = λ j q. let z : 0 + (i + j) % m ≡ (i + j) % m = omega arith in let a = rw z at (counts c 0 m ((i + j) % m) (mod-lt (i + j) k)) in omega arith }
 
 -- up to the only one that does
-pub towards : (c : List ℕ) (m i t e : ℕ) → stirs c 0 m ≤ 1 → m ≤ length c → i < m → t < m → 1 ≤ stop (getD c t 0) → (i ≤ t → i + e ≡ t) → (t < i → i + e ≡ t + m) → Calm c m i e
+pub towards : (c : List ℕ) (m i t e : ℕ) → stirs c 0 m ≤ 1 → m ≤ length c → i < m → t < m → 1 ≤ stop (getD c t 0) → (i ≤ t → i + e ≡ t)
+    → (t < i → i + e ≡ t + m) → Calm c m i e
 towards c m i t e h k a b s f g = record { none = λ j q. go j q (ltb i (t + 1)) refl (ltb (i + j) m) refl }
   where
     go : (j : ℕ) → j < e → (u : Bool) → ltb i (t + 1) ≡ u → (v : Bool) → ltb (i + j) m ≡ v → 0 ≡ stop (getD c ((i + j) % m) 0)

@@ -1,6 +1,6 @@
 // Runs of colours that a look passes over.
 ghost use mathlib.Core.Path.{_≡_};
-ghost use Prim.Native.Nat.{ℕ, _+_, _<_, _≤_};
+ghost use Prim.Native.Nat.{_+_, _<_, _≤_};
 ghost use lib.ListN.{length};
 ghost use Rattle.skim.specs.Stirs.{stop, stirs};
 
@@ -133,12 +133,6 @@ pub fn calm(colour: &[u8], i: usize, most: usize) -> usize
     requires { ⌜ i + most ≤ length (now colour) ⌝ }
     ensures { λ d. ⌜ (d ≤ most) × (0 ≡ stirs (now (colour .entry)) i d) ⌝ }
 {
-    if most == 0 {
-        return 0;
-    }
-    if stops(colour[i]) != 0 {
-        return 0;
-    }
     if most < 64 {
         return singles(colour, i, most);
     }

@@ -1,11 +1,11 @@
 -- A step of a record that passes leaves one that passes again, but for the two counts that `fineOk` looks at.
-use Prim.Native.Nat.{ℕ, _+_, _-_, _%_, _≤_, _<_}
+use Prim.Native.Nat.{ℕ, _+_, _-_, _≤_, _<_}
 use mathlib.Core.Path.{_≡_, refl, sym, _∙_}
 use mathlib.Core.Bool.{Bool, true, false, _||_, true≢false}
 use mathlib.Core.List.{List, [], _∷_}
 use lib.ListN.{length, set, length-set}
-use lib.Dec.{ltb, leb, eqb}
-use borrow.Author.Tests.{ltb-true, leb-true, leb-false, eqb-false}
+use lib.Dec.{leb, eqb}
+use borrow.Author.Tests.{ltb-true, leb-false, eqb-false}
 use native.Mathlib.Omega.{arith}
 use native.Mathlib.Nat.{mod-lt}
 use Rattle.base.specs.Choice.{every, pick}
@@ -14,10 +14,10 @@ use Rattle.rules.specs.declared.Record.{Record}
 use Rattle.rules.specs.declared.Phase.{Phase}
 use Rattle.rules.specs.declared.Phase.the-variants.{Roots, Scan, Left, Right, Black, Append}
 use Rattle.rules.specs.Table.{State, Outcome, withEdge, shadeIn}
-use Rattle.rules.specs.Records.{withLast, moved, marked, rescan, closed, afterAppend}
+use Rattle.rules.specs.Records.{withLast, moved, marked, rescan, afterAppend}
 use Rattle.rules.specs.Check.{sizeOk, phaseOk, owedOk, lastOk, bound, countsOk, recordOk, checkOf, check}
 use Rattle.rules.specs.Collector.{shadeStep, afterRoots, scanStep, edgeStep, blackStep, append, appendWhite, appendStep, phaseStep}
-use Rattle.rules.specs.Facts.{Good, Inside}
+use Rattle.rules.specs.Facts.{Inside}
 use Rattle.rules.proofs.Good.{passes, good, inside}
 use Rattle.strides.specs.Leads.{fineOk}
 

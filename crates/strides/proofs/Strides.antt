@@ -1,21 +1,18 @@
 -- Steps put together to strides.
-use Prim.Native.Nat.{ℕ, zero, suc, _+_, _-_, _≤_, _<_}
-use mathlib.Core.Path.{_≡_, refl, sym, ap, _∙_}
-use mathlib.Core.Bool.{Bool, true, false}
+use Prim.Native.Nat.{ℕ, suc, _+_, _-_, _≤_, _<_}
+use mathlib.Core.Path.{_≡_, refl, sym, _∙_}
 use native.Mathlib.Omega.{arith}
-use lib.Dec.{eqb}
-use Rattle.base.specs.Choice.{pick}
-use Rattle.base.proofs.Tests.{pick-yes, pick-no, eq-yes, eq-no, lt-yes, le-yes, every-skip, every-none}
+use Rattle.base.proofs.Tests.{pick-yes, eq-yes, lt-yes, le-yes, every-skip, every-none}
 use Rattle.rules.specs.declared.Record.{Record}
 use Rattle.rules.specs.declared.Answer.{Answer}
 use Rattle.rules.specs.Table.{State, Outcome}
-use Rattle.rules.specs.Check.{bound, check}
+use Rattle.rules.specs.Check.{bound}
 use Rattle.rules.specs.Collector.{phaseStep, collect}
 use Rattle.rules.specs.Steps.{step, collecting, codeOf}
 use Rattle.rules.proofs.Good.{good}
 use Rattle.rules.proofs.Sizes.{square}
 use Rattle.rules.proofs.Laws.{step-collecting, unless-done}
-use Rattle.strides.specs.Leads.{Lasted, lasted, more, Passes, Room, Leads, fineOk}
+use Rattle.strides.specs.Leads.{more, Passes, Room, Leads, fineOk}
 use Rattle.strides.proofs.Steady.{Kept, kept, passes-again}
 
 -- no step
@@ -63,7 +60,8 @@ pub step-is : (s : State) → Passes s → phaseStep s (s .rec .phase) ≡ step 
 unfolding collect
 step-is s p = rw step-collecting (unless-done _ _ _ _ _ (p .code) refl refl)
 
-pub done-on : (s : State) (o : Outcome) (n e : ℕ) (a : Answer) → o ≡ step collecting s → codeOf (o .answer) ≡ 0 → more (suc n) e a s ≡ more n (e + 1) (o .answer) (o .state)
+pub done-on : (s : State) (o : Outcome) (n e : ℕ) (a : Answer) → o ≡ step collecting s → codeOf (o .answer) ≡ 0
+    → more (suc n) e a s ≡ more n (e + 1) (o .answer) (o .state)
 unfolding more
 done-on s o n e a w z = rw (← w) (sym (pick-yes _ _ _ _ (eq-yes _ _ z) refl))
 
@@ -72,7 +70,8 @@ unfolding more
 any-answer s n e a b = refl
 
 -- a step that is done and leaves the two counts within their limits
-pub step-on : (s : State) (o : Outcome) → Passes s → o ≡ phaseStep s (s .rec .phase) → codeOf (o .answer) ≡ 0 → o .state .rec .blackened ≤ s .rec .m → o .state .rec .steps < bound (s .rec .m) (s .rec .r) → Leads s 1 (o .state)
+pub step-on : (s : State) (o : Outcome) → Passes s → o ≡ phaseStep s (s .rec .phase) → codeOf (o .answer) ≡ 0 → o .state .rec .blackened ≤ s .rec .m
+    → o .state .rec .steps < bound (s .rec .m) (s .rec .r) → Leads s 1 (o .state)
 unfolding fineOk
 step-on s o p w z k l =
     let h : Kept s o = rw w (kept s (p .code)) in

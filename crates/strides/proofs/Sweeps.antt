@@ -9,7 +9,7 @@ use Rattle.base.proofs.Tests.{pick-yes, pick-no, lt-no, le-no, eq-yes, eq-no, o
 use Rattle.rules.specs.declared.Record.{Record}
 use Rattle.rules.specs.declared.Phase.the-variants.{Roots, Append}
 use Rattle.rules.specs.declared.Answer.the-variants.{Shaded, Whitened, Appended}
-use Rattle.rules.specs.Table.{State, Outcome, state, did, withEdge, shadeIn}
+use Rattle.rules.specs.Table.{State, state, did, withEdge, shadeIn}
 use Rattle.rules.specs.Records.{withLast, moved, afterAppend}
 use Rattle.rules.specs.Check.{bound}
 use Rattle.rules.specs.Collector.{shadeStep, afterRoots, append, appendWhite, appendStep, phaseStep}
@@ -50,7 +50,8 @@ module _ (l r c : List ℕ) (x : Record) (i : ℕ) (p : Passes (state l r c x)) 
       step-on s o p (w ∙ ap (phaseStep s) (sym h)) refl (g .blackened) b
 
   -- a white node goes to the end of the free list
-  pub appends : x .phase ≡ Append i → i + 1 < x .m → getD c i 0 ≡ 0 → x .r + 1 < i → (i ≡ x .last → ⊥) → Leads s 1 (state (set (set l i 0) (x .last) i) (set r i 0) c (moved (withLast x i) (Append (i + 1))))
+  pub appends : x .phase ≡ Append i → i + 1 < x .m → getD c i 0 ≡ 0 → x .r + 1 < i → (i ≡ x .last → ⊥)
+      → Leads s 1 (state (set (set l i 0) (x .last) i) (set r i 0) c (moved (withLast x i) (Append (i + 1))))
   unfolding phaseStep appendStep appendWhite append withEdge pick
   appends h q v root last =
       let g = good _ _ _ x (p .code) in

@@ -1,5 +1,5 @@
 -- At a gray node with two good edges four steps are: shade, shade, blacken.
-use Prim.Native.Nat.{ℕ, zero, suc, _+_, _-_, _%_, _≤_, _<_}
+use Prim.Native.Nat.{ℕ, _+_, _-_, _%_, _≤_, _<_}
 use mathlib.Core.Path.{_≡_, refl, sym, ap, _∙_}
 use mathlib.Core.Bool.{Bool, true, false}
 use mathlib.Core.List.{List}
@@ -18,9 +18,9 @@ use Rattle.rules.specs.Table.{State, state, did, colourOf, edgeOf, shadeIn, sha
 use Rattle.rules.specs.Records.{moved, rescan}
 use Rattle.rules.specs.Check.{bound}
 use Rattle.rules.specs.Collector.{shadeStep, scanStep, edgeStep, blackStep, phaseStep}
-use Rattle.rules.proofs.Good.{good, inside}
+use Rattle.rules.proofs.Good.{good}
 use Rattle.strides.specs.Leads.{Passes, Leads, Fit}
-use Rattle.strides.proofs.Strides.{stay, then, step-on}
+use Rattle.strides.proofs.Strides.{then, step-on}
 
 -- the record after the visit of node i
 abbrev pub visited : Record → ℕ → Record
@@ -46,7 +46,8 @@ still-fit m c e f v h = record { below = h .below; not-free = h .not-free; known
     go false q = rw (getD-set-other c e f 1 0 (λ z. eqb-false e f q (sym z))) (h .known)
 
 module _ (l r c : List ℕ) (x : Record) (i k : ℕ) (p : Passes (state l r c x)) (h : x .phase ≡ Scan i k) where
-  pub visits : getD c i 0 ≡ 1 → Fit (x .m) c (getD l i 0) → Fit (x .m) c (getD r i 0) → x .steps + 4 < bound (x .m) (x .r) → x .blackened < x .m → Leads (state l r c x) 4 (state l r (set (shadeIn (shadeIn c (getD l i 0)) (getD r i 0)) i 2) (visited x i))
+  pub visits : getD c i 0 ≡ 1 → Fit (x .m) c (getD l i 0) → Fit (x .m) c (getD r i 0) → x .steps + 4 < bound (x .m) (x .r) → x .blackened < x .m
+      → Leads (state l r c x) 4 (state l r (set (shadeIn (shadeIn c (getD l i 0)) (getD r i 0)) i 2) (visited x i))
   unfolding phaseStep blackStep edgeOf pick
   visits gray left right room dark =
       let g = good _ _ _ x (p .code) in

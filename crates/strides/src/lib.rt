@@ -1,7 +1,7 @@
 // Many collector steps at once: the laws by which a run of steps is one stride are in proofs/.
 use rules::Record;
 ghost use mathlib.Core.Path.{_≡_};
-ghost use Prim.Native.Nat.{ℕ, _≤_};
+ghost use Prim.Native.Nat.{_≤_};
 ghost use Rattle.strides.specs.Leads.{fineOk};
 
 // Steps made, and the record after them.

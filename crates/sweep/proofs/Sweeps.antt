@@ -1,13 +1,12 @@
 -- Steps of Roots and of Append put together.
 use Prim.Native.Nat.{ℕ, _+_, _-_, _≤_, _<_}
-use mathlib.Core.Path.{_≡_, refl, sym, ap, _∙_}
+use mathlib.Core.Path.{_≡_, refl}
 use mathlib.Core.List.{List}
 use lib.ListN.{length, getD, set}
 use native.Mathlib.Omega.{arith}
 use Rattle.rules.specs.declared.Record.{Record}
 use Rattle.rules.specs.declared.Phase.the-variants.{Roots, Append}
 use Rattle.rules.specs.Table.{State, state, shadeIn}
-use Rattle.rules.specs.Check.{bound}
 use Rattle.rules.proofs.Good.{good, inside}
 use Rattle.strides.specs.Leads.{Passes, Room, Leads}
 use Rattle.strides.proofs.Strides.{stay, then}
@@ -56,10 +55,12 @@ start : (x : Record) (i : ℕ) → x .phase ≡ Append i → swept x (record { i
 unfolding swept
 start x i h = let s : x .steps + 0 ≡ x .steps = omega arith in rw (s, ← h)
 
-pub begins : (l k c : List ℕ) (x : Record) (i : ℕ) → x .phase ≡ Append i → Passes (state l k c x) → Passes (state l k c (swept x (record { i = i; last = x .last; d = 0 })))
+pub begins : (l k c : List ℕ) (x : Record) (i : ℕ) → x .phase ≡ Append i → Passes (state l k c x)
+    → Passes (state l k c (swept x (record { i = i; last = x .last; d = 0 })))
 begins l k c x i h p = rw (start x i h) p
 
-pub ends : (l k c : List ℕ) (t : State) (x : Record) (i d : ℕ) → x .phase ≡ Append i → Leads (state l k c (swept x (record { i = i; last = x .last; d = 0 }))) (d - 0) t → Leads (state l k c x) d t
+pub ends : (l k c : List ℕ) (t : State) (x : Record) (i d : ℕ) → x .phase ≡ Append i
+    → Leads (state l k c (swept x (record { i = i; last = x .last; d = 0 }))) (d - 0) t → Leads (state l k c x) d t
 ends l k c t x i d h w = let z : d - 0 ≡ d = omega arith in rw (z, start x i h) at w
 
 module _ (l k c : List ℕ) (x : Record) (s : Row) (p : Passes (state l k c (swept x s))) where
@@ -76,7 +77,8 @@ module _ (l k c : List ℕ) (x : Record) (s : Row) (p : Passes (state l k c (swe
         let t : x .steps + (s .d + 1) ≡ x .steps + s .d + 1 = omega arith in
         rw (n, i, e, d, t) (strides.whitens l k c (swept x s) (s .i) p (omega arith) refl q v)
 
-    pub appends : r .last ≡ s .i → getD c (s .i) 0 ≡ 0 → x .r + 1 < s .i → (s .i ≡ s .last → ⊥) → Leads (state l k c (swept x s)) (r .d - s .d) (state (set (set l (s .i) 0) (s .last) (s .i)) (set k (s .i) 0) c (swept x r))
+    pub appends : r .last ≡ s .i → getD c (s .i) 0 ≡ 0 → x .r + 1 < s .i → (s .i ≡ s .last → ⊥)
+        → Leads (state l k c (swept x s)) (r .d - s .d) (state (set (set l (s .i) 0) (s .last) (s .i)) (set k (s .i) 0) c (swept x r))
     unfolding swept
     appends e v f g =
         let z = b .steps in

@@ -3,7 +3,7 @@ use rules::Phase;
 use rules::Record;
 use strides::Ahead;
 ghost use mathlib.Core.Path.{_≡_};
-ghost use Prim.Native.Nat.{ℕ, _+_, _-_, _<_, _≤_};
+ghost use Prim.Native.Nat.{_+_, _-_, _<_, _≤_};
 ghost use lib.ListN.{length, getD};
 ghost use Rattle.rules.specs.Table.{state};
 ghost use Rattle.rules.specs.declared.Phase.the-variants.{Roots, Append};

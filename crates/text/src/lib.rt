@@ -1,0 +1,384 @@
+// A schedule's text: a line's bytes to what it says, and an answer to its line of bytes. Document 01's grammar as definitions is in specs/.
+use rules::Step;
+ghost use mathlib.Core.Path.{_≡_};
+ghost use Prim.Native.Nat.{_<_};
+ghost use Rattle.text.specs.Bytes.{bytes};
+ghost use Rattle.text.specs.Grammar.{byteAt, after, isDigit, digitsAt, numberAt, sideAt, lettersAt, turnsAt, placeAt, takeLine, linkLine, shadeLine, lookLine, collectLine, firstLine, counted, read};
+ghost use Rattle.text.specs.Answers.{digitOf, decimal, said, written, put, putAll};
+
+// What a line says.
+pub enum Said {
+    First(u32, u32),
+    Do(Step),
+    Collect(u32),
+    Unreadable,
+}
+
+// A number, and the position behind it.
+pub struct Number {
+    pub value: u32,
+    pub at: usize,
+}
+
+// A side, and the position behind it.
+pub struct Side {
+    pub side: u32,
+    pub at: usize,
+}
+
+// Turns, and the position behind them.
+pub struct Turns {
+    pub count: u32,
+    pub word: u32,
+    pub at: usize,
+}
+
+// A place, and the position behind it.
+pub struct Spot {
+    pub slot: u32,
+    pub count: u32,
+    pub word: u32,
+    pub at: usize,
+}
+
+// M and R, and the position behind them.
+pub struct Sizes {
+    pub nodes: u32,
+    pub slots: u32,
+    pub at: usize,
+}
+
+// A step, and the position behind it.
+pub struct Form {
+    pub step: Step,
+    pub at: usize,
+}
+
+// The byte at a position; 256 past the end.
+fn byte_at(line: &[u8], i: usize) -> u16
+    ensures { λ b. ⌜ b ≡ byteAt (now (line .entry)) i ⌝ }
+{
+    if i < line.len() {
+        return line[i] as u16;
+    }
+    256
+}
+
+// The position behind a word that stands at i; 81 where it does not.
+fn after(line: &[u8], i: usize, word: &[u8]) -> usize
+    ensures { λ r. ⌜ r ≡ after (now (line .entry)) i (now (word .entry)) ⌝ }
+{
+    let mut at = i;
+    let mut k = 0;
+    while k < word.len() {
+        if byte_at(line, at) != word[k] as u16 {
+            return 81;
+        }
+        at += 1;
+        k += 1;
+    }
+    at
+}
+
+fn is_digit(b: u16) -> bool
+    ensures { λ r. ⌜ r ≡ isDigit b ⌝ }
+{
+    if b < 48 {
+        return false;
+    }
+    b <= 57
+}
+
+fn digits_at(line: &[u8], i: usize) -> Number
+    ensures { λ r. ⌜ r ≡ digitsAt (now (line .entry)) 7 0 i ⌝ }
+{
+    let mut n: u32 = 0;
+    let mut at = i;
+    let mut more: u32 = 7;
+    while 0 < more {
+        let b = byte_at(line, at);
+        if !is_digit(b) {
+            return Number { value: n, at };
+        }
+        n = n * 10 + (b - 48) as u32;
+        at += 1;
+        more -= 1;
+    }
+    Number { value: n, at }
+}
+
+fn number_at(line: &[u8], i: usize) -> Number
+    ensures { λ r. ⌜ r ≡ numberAt (now (line .entry)) i ⌝ }
+{
+    let b = byte_at(line, i);
+    if !is_digit(b) {
+        return Number { value: 0, at: 81 };
+    }
+    if b == 48 {
+        return Number {
+            value: 0,
+            at: i + 1,
+        };
+    }
+    digits_at(line, i)
+}
+
+fn side_at(line: &[u8], i: usize) -> Side
+    ensures { λ r. ⌜ r ≡ sideAt (now (line .entry)) i ⌝ }
+{
+    let b = byte_at(line, i);
+    if b == 76 {
+        return Side { side: 0, at: i + 1 };
+    }
+    if b == 82 {
+        return Side { side: 1, at: i + 1 };
+    }
+    Side { side: 0, at: 81 }
+}
+
+fn letters_at(line: &[u8], i: usize) -> Turns
+    ensures { λ r. ⌜ r ≡ lettersAt (now (line .entry)) 80 0 0 1 i ⌝ }
+{
+    let mut count: u32 = 0;
+    let mut word: u32 = 0;
+    let mut bit: u32 = 1;
+    let mut at = i;
+    let mut more: u32 = 80;
+    while 0 < more {
+        let s = side_at(line, at);
+        if s.at == 81 {
+            return Turns { count, word, at };
+        }
+        count += 1;
+        word = (word + s.side * bit) % 4096;
+        bit = bit * 2 % 4096;
+        at = s.at;
+        more -= 1;
+    }
+    Turns { count, word, at }
+}
+
+fn turns_at(line: &[u8], i: usize) -> Turns
+    ensures { λ r. ⌜ r ≡ turnsAt (now (line .entry)) i ⌝ }
+{
+    if byte_at(line, i) == 45 {
+        return Turns {
+            count: 0,
+            word: 0,
+            at: i + 1,
+        };
+    }
+    let s = side_at(line, i);
+    if s.at == 81 {
+        return Turns {
+            count: 0,
+            word: 0,
+            at: 81,
+        };
+    }
+    letters_at(line, i)
+}
+
+fn place_at(line: &[u8], i: usize, word: &[u8]) -> Spot
+    ensures { λ r. ⌜ r ≡ placeAt (now (line .entry)) i (now (word .entry)) ⌝ }
+{
+    let slot = number_at(line, i);
+    let path = turns_at(line, after(line, slot.at, word));
+    Spot {
+        slot: slot.value,
+        count: path.count,
+        word: path.word,
+        at: path.at,
+    }
+}
+
+fn take_line(line: &[u8]) -> Form
+    ensures { λ r. ⌜ r ≡ takeLine (now (line .entry)) ⌝ }
+{
+    let p = place_at(line, after(line, 0, b"op=take slot="), b" turns=");
+    let s = side_at(line, after(line, p.at, b" side="));
+    let step = Step {
+        kind: 0,
+        slot: p.slot,
+        count: p.count,
+        word: p.word,
+        side: s.side,
+        toslot: 0,
+        tocount: 0,
+        toword: 0,
+    };
+    Form { step, at: s.at }
+}
+
+fn link_line(line: &[u8]) -> Form
+    ensures { λ r. ⌜ r ≡ linkLine (now (line .entry)) ⌝ }
+{
+    let p = place_at(line, after(line, 0, b"op=link slot="), b" turns=");
+    let s = side_at(line, after(line, p.at, b" side="));
+    let q = place_at(line, after(line, s.at, b" toslot="), b" toturns=");
+    let step = Step {
+        kind: 1,
+        slot: p.slot,
+        count: p.count,
+        word: p.word,
+        side: s.side,
+        toslot: q.slot,
+        tocount: q.count,
+        toword: q.word,
+    };
+    Form { step, at: q.at }
+}
+
+fn shade_line(line: &[u8]) -> Form
+    ensures { λ r. ⌜ r ≡ shadeLine (now (line .entry)) ⌝ }
+{
+    let at = after(line, 0, b"op=shade");
+    let step = Step {
+        kind: 2,
+        slot: 0,
+        count: 0,
+        word: 0,
+        side: 0,
+        toslot: 0,
+        tocount: 0,
+        toword: 0,
+    };
+    Form { step, at }
+}
+
+fn look_line(line: &[u8]) -> Form
+    ensures { λ r. ⌜ r ≡ lookLine (now (line .entry)) ⌝ }
+{
+    let p = place_at(line, after(line, 0, b"op=look slot="), b" turns=");
+    let step = Step {
+        kind: 4,
+        slot: p.slot,
+        count: p.count,
+        word: p.word,
+        side: 0,
+        toslot: 0,
+        tocount: 0,
+        toword: 0,
+    };
+    Form { step, at: p.at }
+}
+
+fn collect_line(line: &[u8]) -> Number
+    ensures { λ r. ⌜ r ≡ collectLine (now (line .entry)) ⌝ }
+{
+    number_at(line, after(line, 0, b"op=collect count="))
+}
+
+fn first_line(line: &[u8]) -> Sizes
+    ensures { λ r. ⌜ r ≡ firstLine (now (line .entry)) ⌝ }
+{
+    let m = number_at(line, after(line, 0, b"nodes="));
+    let r = number_at(line, after(line, m.at, b" slots="));
+    Sizes {
+        nodes: m.value,
+        slots: r.value,
+        at: r.at,
+    }
+}
+
+fn counted(n: u32) -> Said
+    ensures { λ r. ⌜ r ≡ counted n ⌝ }
+{
+    if n <= 1000000 {
+        return Said::Collect(n);
+    }
+    Said::Unreadable
+}
+
+// What a line says; a line over 80 bytes is unreadable.
+pub fn read(line: &[u8]) -> Said
+    ensures { λ r. ⌜ r ≡ read (now (line .entry)) ⌝ }
+{
+    let end = line.len();
+    if 80 < end {
+        return Said::Unreadable;
+    }
+    let take = take_line(line);
+    if take.at == end {
+        let step = take.step;
+        return Said::Do(step);
+    }
+    let link = link_line(line);
+    if link.at == end {
+        let step = link.step;
+        return Said::Do(step);
+    }
+    let shade = shade_line(line);
+    if shade.at == end {
+        let step = shade.step;
+        return Said::Do(step);
+    }
+    let look = look_line(line);
+    if look.at == end {
+        let step = look.step;
+        return Said::Do(step);
+    }
+    let collect = collect_line(line);
+    if collect.at == end {
+        return counted(collect.value);
+    }
+    let first = first_line(line);
+    if first.at == end {
+        return Said::First(first.nodes, first.slots);
+    }
+    Said::Unreadable
+}
+
+// One byte more of the output, where there is room; answers how much is used.
+pub fn put(out: &mut [u8], used: usize, b: u8) -> usize
+    ensures { λ r. ⌜ written (now (out .exit)) r ≡ put (written (now (out .entry)) used) b ⌝ }
+{
+    if used < out.len() {
+        out[used] = b;
+        return used + 1;
+    }
+    used
+}
+
+fn put_all(out: &mut [u8], used: usize, word: &[u8]) -> usize
+    ensures { λ r. ⌜ written (now (out .exit)) r ≡ putAll (written (now (out .entry)) used) (now (word .entry)) ⌝ }
+{
+    let mut at = used;
+    let mut k = 0;
+    while k < word.len() {
+        at = put(out, at, word[k]);
+        k += 1;
+    }
+    at
+}
+
+fn digit(out: &mut [u8], used: usize, n: u16, ten: u16) -> usize
+    requires { ⌜ 0 < ten ⌝ }
+    ensures { λ r. ⌜ written (now (out .exit)) r ≡ putAll (written (now (out .entry)) used) (digitOf n ten) ⌝ }
+{
+    if n < ten {
+        return used;
+    }
+    put(out, used, 48 + (n / ten % 10) as u8)
+}
+
+fn decimal(out: &mut [u8], used: usize, n: u16) -> usize
+    ensures { λ r. ⌜ written (now (out .exit)) r ≡ putAll (written (now (out .entry)) used) (decimal n) ⌝ }
+{
+    let a = digit(out, used, n, 10000);
+    let b = digit(out, a, n, 1000);
+    let c = digit(out, b, n, 100);
+    let d = digit(out, c, n, 10);
+    put(out, d, 48 + (n % 10) as u8)
+}
+
+// Puts an answer's line behind the bytes of the output that are used, as far as there is room; answers how many are used then.
+pub fn say(out: &mut [u8], used: usize, code: u8, node: u16) -> usize
+    ensures { λ r. ⌜ written (now (out .exit)) r ≡ putAll (written (now (out .entry)) used) (said code node) ⌝ }
+{
+    let a = put_all(out, used, b"code=");
+    let b = decimal(out, a, code as u16);
+    let c = put_all(out, b, b" node=");
+    let d = decimal(out, c, node);
+    put(out, d, 10)
+}

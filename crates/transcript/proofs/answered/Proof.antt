@@ -1,0 +1,16 @@
+use Prim.Native.Nat.{_-_}
+use borrow.Author.Needs.{needs}
+use Rattle.transcript.proofs.answered.Statement.{statement}
+use Rattle.transcript.proofs.answered.Tie as tie
+
+code-requires : tie.Need-code-requires
+code-requires c κs = search needs
+
+node-requires : tie.Need-node-requires
+node-requires c κs = search needs
+
+returns : tie.Need-returns
+returns c = λ l r c₁. cc
+
+pub answered-spec : {M : Type 1} → statement M
+answered-spec = tie.close (tie.spec code-requires node-requires returns)

@@ -1,0 +1,26 @@
+use borrow.Author.Needs.{needs}
+use Rattle.transcript.proofs.collect_many.Statement.{statement}
+use Rattle.transcript.proofs.collect_many.Tie as tie
+
+collect-many-requires : tie.Need-collect-many-requires
+collect-many-requires c κs = search needs
+
+code-requires : tie.Need-code-requires
+code-requires c κs = search needs
+
+same-length : tie.Need-same-length
+same-length c = search needs
+
+same-length-2 : tie.Need-same-length-2
+same-length-2 c = search needs
+
+same-length-3 : tie.Need-same-length-3
+same-length-3 c = search needs
+
+returns : tie.Need-returns
+returns c = rw (c .code .ensures) (c .before .before .before .before .before .before .before .before .collect-many .ensures .0)
+
+pub collect-many-spec : {M : Type 1} → statement M
+collect-many-spec =
+    tie.close
+    (tie.spec collect-many-requires code-requires same-length same-length-2 same-length-3 returns)

@@ -1,0 +1,39 @@
+use Prim.Native.Nat.{_-_}
+use borrow.Author.Needs.{needs}
+use Rattle.transcript.specs.Feeding.{ended}
+use Rattle.transcript.proofs.ended.Statement.{statement}
+use Rattle.transcript.proofs.ended.Tie as tie
+
+later-of-requires : tie.Need-later-of-requires
+later-of-requires c κs = search needs
+
+say-requires : tie.Need-say-requires
+say-requires c κs = search needs
+
+same-length : tie.Need-same-length
+same-length c = search needs
+
+same-length-2 : tie.Need-same-length-2
+same-length-2 c = search needs
+
+same-length-3 : tie.Need-same-length-3
+same-length-3 c = search needs
+
+same-length-4 : tie.Need-same-length-4
+same-length-4 c = search needs
+
+returns : tie.Need-returns
+unfolding ended
+returns c = rw (← c .before .before .before .before .before .before .before .before .before .before .before .later-of .ensures, ← c .before .before .say .ensures)
+
+pub ended-spec : {M : Type 1} → statement M
+ended-spec =
+    tie.close
+    (tie.spec
+    later-of-requires
+    say-requires
+    same-length
+    same-length-2
+    same-length-3
+    same-length-4
+    returns)

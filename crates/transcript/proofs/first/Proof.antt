@@ -1,0 +1,81 @@
+use Prim.Native.Nat.{_-_}
+use mathlib.Core.Path.{refl}
+use native.Mathlib.Omega.{arith}
+use borrow.Author.Needs.{needs}
+use Rattle.transcript.specs.Transcript.{first}
+use Rattle.transcript.proofs.Firsts.{fails}
+use Rattle.transcript.proofs.first.Statement.{statement}
+use Rattle.transcript.proofs.first.Tie as tie
+
+read-requires : tie.Need-read-requires
+read-requires c κs = search needs
+
+enum-known-said : tie.Need-enum-known-said
+enum-known-said c = search needs
+
+begin-requires : tie.Need-begin-requires
+begin-requires c κs = search needs
+
+enum-told : tie.Need-enum-told
+enum-told c = search needs
+
+refused-requires : tie.Need-refused-requires
+refused-requires c κs = search needs
+
+enum-told-2 : tie.Need-enum-told-2
+enum-told-2 c = search needs
+
+refused-requires-2 : tie.Need-refused-requires-2
+refused-requires-2 c κs = search needs
+
+enum-told-3 : tie.Need-enum-told-3
+enum-told-3 c = search needs
+
+refused-requires-3 : tie.Need-refused-requires-3
+refused-requires-3 c κs = search needs
+
+same-length : tie.Need-same-length
+same-length c = search needs
+
+same-length-2 : tie.Need-same-length-2
+same-length-2 c = search needs
+
+same-length-3 : tie.Need-same-length-3
+same-length-3 c = search needs
+
+returns : tie.Need-returns
+unfolding first
+returns c = rw (← c .before .before .before .before .before .before .before .before .before .before .before .before .before .read .ensures, c .before .before .before .before .before .before .before .before .before .before .before .said .given .1) (c .before .before .before .before .before .before .begin .ensures)
+
+returns-2 : tie.Need-returns-2
+unfolding first
+returns-2 c = rw (← c .before .before .before .read .ensures, c .before .enum-told .given .1) (fails _ _ _ _ _ _ (c .refused .ensures) refl refl (λ z. omega arith))
+
+returns-3 : tie.Need-returns-3
+unfolding first
+returns-3 c = rw (← c .before .before .before .read .ensures, c .before .enum-told2 .given .1) (fails _ _ _ _ _ _ (c .refused2 .ensures) refl refl (λ z. omega arith))
+
+returns-4 : tie.Need-returns-4
+unfolding first
+returns-4 c = rw (← c .before .before .before .read .ensures, c .before .enum-told3 .given .1) (fails _ _ _ _ _ _ (c .refused3 .ensures) refl refl (λ z. omega arith))
+
+pub first-spec : {M : Type 1} → statement M
+first-spec =
+    tie.close
+    (tie.spec
+    read-requires
+    enum-known-said
+    begin-requires
+    enum-told
+    refused-requires
+    enum-told-2
+    refused-requires-2
+    enum-told-3
+    refused-requires-3
+    same-length
+    same-length-2
+    same-length-3
+    returns
+    returns-2
+    returns-3
+    returns-4)

@@ -1,0 +1,51 @@
+use Prim.Native.Nat.{_-_}
+use mathlib.Core.Path.{_≡_, refl, sym, _∙_}
+use lib.ListN.{length, drop}
+use native.Mathlib.Omega.{arith}
+use Rattle.base.proofs.Tests.{pick-yes, pick-no, eq-yes, eq-no}
+use Rattle.transcript.specs.Feeding.{newlineFrom}
+use Rattle.transcript.proofs.Feeds.{newline-turn, newline-none}
+use Rattle.transcript.proofs.first_end.Statement.{statement}
+use Rattle.transcript.proofs.first_end.Tie as tie
+
+abbrev Inv-loop : tie.InvT-loop
+Inv-loop input i₀ i =
+    newlineFrom input 0 ≡ newlineFrom (drop i input) i
+
+abbrev μ-loop : tie.MeasureT-loop
+μ-loop input i₀ i = length input - i
+
+loop-holds : tie.Need-loop-holds Inv-loop μ-loop
+loop-holds c = refl
+
+shared-slice-read-if1 : tie.Need-shared-slice-read-if1 Inv-loop μ-loop
+shared-slice-read-if1 c = omega arith
+
+returns : tie.Need-returns Inv-loop μ-loop
+returns c = rw (c .before .before .before .loop .inv, newline-turn _ _ (c .before .before .loop-test .taken)) (pick-yes _ _ _ _ (eq-yes _ _ (c .if1 .taken)) refl)
+
+add-i : tie.Need-add-i Inv-loop μ-loop
+add-i c = omega arith
+
+loop-less : tie.Need-loop-less Inv-loop μ-loop
+loop-less c = omega arith
+
+loop-again : tie.Need-loop-again Inv-loop μ-loop
+loop-again c = c .before .before .before .loop .inv ∙ sym (rw (newline-turn _ _ (c .before .before .loop-test .taken)) (pick-no _ _ _ _ (eq-no _ _ (c .if1 .left)) refl))
+
+returns-2 : tie.Need-returns-2 Inv-loop μ-loop
+returns-2 c = rw (c .before .loop .inv) (newline-none _ _ (c .loop-test .left))
+
+pub first-end-spec : {M : Type 1} → statement M
+first-end-spec =
+    tie.close
+    (tie.spec
+    Inv-loop
+    μ-loop
+    loop-holds
+    shared-slice-read-if1
+    returns
+    add-i
+    loop-less
+    loop-again
+    returns-2)

@@ -1,0 +1,62 @@
+-- Later lines as they come in: a state, the line at hand and the output, both in buffers.
+use Rattle.base.specs.Choice.{pick}
+use Prim.Native.Nat.{ℕ, _+_}
+use mathlib.Core.List.{List, [], _∷_}
+use lib.ListN.{take}
+use lib.Dec.{leb, eqb}
+use Rattle.rules.specs.Table.{State, state}
+use Rattle.text.specs.Grammar.{read}
+use Rattle.text.specs.Answers.{Written, written, contents, put, putAll}
+use mathlib.Core.Path.{_≡_}
+use Rattle.transcript.specs.declared.Told.{Told}
+use Rattle.transcript.specs.Transcript.{Line, later, printed, newline}
+use Rattle.transcript.specs.declared.Run.{Run}
+use Rattle.transcript.specs.declared.Fed.{Fed}
+
+pub record Going : Type 0 where
+  pub state : State
+  pub line : Written
+  pub out : Written
+
+abbrev pub going : Run → List ℕ → List ℕ → List ℕ → List ℕ → List ℕ → Going
+going g l r c line out = record { state = state l r c (g .rec); line = written line (g .at); out = written out (g .used) }
+
+-- the line at hand is at its end: it is answered, and the next begins
+unfoldable pub ended : Going → Going
+ended g =
+    let t = later (read (contents (g .line))) (g .state) in
+    record { state = t .state; line = written (g .line .out) 0; out = putAll (g .out) (printed t) }
+
+unfoldable pub nextByte : Going → ℕ → Going
+nextByte g b = pick (eqb b newline) (ended g) (record { state = g .state; line = put (g .line) b; out = g .out })
+
+-- the end of the input
+unfoldable pub finished : Going → Going
+finished g = pick (eqb (g .line .used) 0) g (ended g)
+
+-- the position of the next byte, and where the bytes before it led
+pub record Taken : Type 0 where
+  pub next : ℕ
+  pub going : Going
+
+abbrev pub taken : ℕ → Going → Taken
+taken i g = record { next = i; going = g }
+
+abbrev pub fed : Fed → List ℕ → List ℕ → List ℕ → List ℕ → List ℕ → Taken
+fed f l r c line out = taken (f .next) (going (f .run) l r c line out)
+
+-- bytes from position i on, as long as there is room for one answer more in an output of 65,536 bytes
+unfoldable pub feed : List ℕ → ℕ → Going → Taken
+feed [] i g = taken i g
+feed (b ∷ input) i g = pick (leb (g .out .used) 65514) (feed input (i + 1) (nextByte g b)) (taken i g)
+
+-- a first line's answer, and the table in the first entries of the program's own
+pub record Begun (t : Told) (l r c : List ℕ) (line : Line) : Type 0 where
+  pub code : t .code ≡ line .code
+  pub node : t .node ≡ line .node
+  pub table : t .code ≡ 0 → state (take (t .rec .m) l) (take (t .rec .m) r) (take (t .rec .m) c) (t .rec) ≡ line .state
+
+-- the position of the first newline, from position i on; past the input's end where there is none
+unfoldable pub newlineFrom : List ℕ → ℕ → ℕ
+newlineFrom [] i = i
+newlineFrom (b ∷ input) i = pick (eqb b newline) i (newlineFrom input (i + 1))

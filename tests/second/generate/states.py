@@ -1,0 +1,257 @@
+"""Lines for `model --state`, `--run` and `--fresh`. A family is given a random
+source and a sound table with its record, may change these, and answers a step:
+kind, slot, count, word, side, toslot, tocount, toword."""
+
+import random
+
+import families
+from schedule import Schedule
+from sim import APPEND, BLACK, COLLECT, LEFT, LINK, LOOK, RIGHT, ROOTS, SCAN, SHADE, TAKE
+
+U32 = 4294967295
+
+
+def bad_colour(rng):
+    return rng.choice((3, 4, 127, 128, 254, 255))
+
+
+def bad_edge(rng, sim):
+    return rng.choice((1, sim.m, sim.m + 1, 4096, 4097, 32768, 65534, 65535))
+
+
+def beyond(rng, value):
+    """A number whose lower 8 or 16 bits are the value's, or a large one."""
+    return rng.choice((value + 256, value + 65536, value + 65536 * rng.randrange(1, 65535),
+                       2 ** 31 + value, 65535, U32, U32 - rng.randrange(9)))
+
+
+def make(changes):
+    """Each change: a list or dictionary, where in it, and the new value."""
+    for holder, at, value in changes:
+        holder[at] = value
+
+
+def place(rng, sim):
+    slot, turns = sim.node_place(rng)[0] if rng.random() < 0.85 else sim.nil_place(rng)
+    return slot, len(turns), sum(1 << j for j, turn in enumerate(turns) if turn == "R")
+
+
+def plain(rng, sim, kind=None):
+    """A step on the table as it is; fields that it has no use for hold anything."""
+    if kind is None:
+        kind = rng.choice((TAKE, TAKE, LINK, LINK, SHADE, COLLECT, COLLECT, LOOK))
+    step = [kind] + rng.choices((0, 1, 2, 13, 200, 255, 65535, 65536, U32), k=7)
+    if kind in (TAKE, LINK, LOOK):
+        step[1:4] = place(rng, sim)
+    if kind in (TAKE, LINK):
+        step[4] = rng.randrange(2)
+    if kind == LINK:
+        step[5:8] = place(rng, sim)
+    return step
+
+
+def collecting(rng, sim):
+    """Every phase at every position and its limits, over any good values."""
+    m, b, sim.tag = sim.m, sim.bound(), rng.randrange(6)
+    top = sim.r + 1 if sim.tag == ROOTS else m - 1
+    sim.i = rng.choice((0, top, rng.randint(0, top)))
+    sim.k = rng.choice((1, 2, m, rng.randint(1, m)))
+    sim.e[0][sim.i], sim.e[1][sim.i] = rng.choices((0, *range(2, m)), k=2)
+    sim.col[:] = rng.choices(range(3), k=m)
+    sim.last = rng.choice((sim.last, 1, *range(sim.r + 2, m)))
+    sim.black, sim.inuse = rng.choice((0, m, rng.randint(0, m))), rng.randint(0, m)
+    sim.steps, sim.lastc = rng.choice((0, b - 2, b - 1, rng.randrange(b))), rng.randint(0, b)
+    sim.cycles = rng.choice((0, 65535, U32 - 1, U32, U32, rng.randrange(U32)))
+    return plain(rng, sim, COLLECT)
+
+
+def collecting_bad(rng, sim):
+    """Bad values where the phase reads them, and where it does not."""
+    step = collecting(rng, sim)
+    v, (left, right), col, i = vars(sim), sim.e, sim.col, sim.i
+    edge, colour, root = bad_edge(rng, sim), bad_colour(rng), rng.randrange(sim.r + 2)
+    ways = [[(col, i, colour)]]
+    if sim.tag in (LEFT, RIGHT):
+        near, far = sim.e if sim.tag == LEFT else sim.e[::-1]
+        n = rng.choice([n for n in range(sim.m) if n != 1])
+        ways += [[(near, i, edge)], [(near, i, n), (col, n, colour)], [(far, i, edge)]]
+    if sim.tag in (BLACK, APPEND):
+        ways += [[(left, i, edge), (right, i, edge), (left, sim.last, edge)]]
+    if sim.tag == APPEND:
+        ways += [[(col, i, 1)], [(v, "i", root), (col, root, 0)]]
+        if sim.r + 2 < sim.m:
+            free = rng.randrange(sim.r + 2, sim.m)
+            ways += [[(v, "i", free), (v, "last", free), (col, free, rng.choice((0, 0, 2)))]]
+    make(rng.choice(ways))
+    return step
+
+
+def damaged(rng, sim):
+    """Any edges, some bad values anywhere; walks of any turns; anything owed."""
+    step = plain(rng, sim)
+    sim.owed = rng.choice((None, None, 0, rng.randrange(2, sim.m)))
+    for n in range(2, sim.m):
+        for edges in sim.e:
+            edges[n] = rng.choice((edges[n], edges[n], 0, rng.randrange(2, sim.m)))
+    for at in (1, 5):
+        if step[0] in (TAKE, LINK, LOOK) and rng.random() < 0.6:
+            step[at:at + 3] = rng.randrange(sim.r), 12, rng.randrange(4096)
+    for _ in range(rng.randint(0, 4)):
+        n, which = rng.choice((2, 3, sim.owed or 0, rng.randrange(sim.m))), rng.randrange(3)
+        (*sim.e, sim.col)[which][n] = bad_colour(rng) if which == 2 else bad_edge(rng, sim)
+    return step
+
+
+def taking(rng, sim):
+    """Take: a bad chain, the source is f or g, g is f, the last one, none."""
+    m, r, (left, right), col, v = sim.m, sim.r, sim.e, sim.col, vars(sim)
+    f, g = rng.sample(range(r + 2, m), 2)
+    slot, side = rng.randrange(r), rng.randrange(2)
+    colour, edge = bad_colour(rng), bad_edge(rng, sim)
+    chain = rng.choice((1, 2, r + 1, r + 2, m - 1, m, m + 1, 65535))
+    step, n = [TAKE, slot, 0, 0, rng.randrange(2), 0, 0, 0], slot + 2
+    at_f, at_g = [[(sim.e[side], n, node), (step, 2, 1), (step, 3, side)] for node in (f, g)]
+    make([(left, 1, f), (left, f, g), (col, f, rng.randrange(3)), (col, g, rng.randrange(3)),
+          (v, "owed", None), (v, "last", rng.choice((sim.last, 1, f, g)))])
+    make(rng.choice((
+        [], at_f, at_g, [(left, f, f)], at_f + [(left, f, f)], [(left, f, 0)],
+        at_f + [(left, f, 0)], [(left, 1, 0), (col, 0, 255)], [(left, 1, chain)],
+        [(left, f, chain)], [(left, f, chain), (col, f, colour), (col, g, colour)],
+        [(col, f, colour)], [(col, g, colour)], [(col, f, colour), (col, g, colour)],
+        [(right, 1, edge), (right, f, edge), (col, 0, colour), (col, 1, colour), (left, n, edge)],
+        [(right, f, rng.choice((0, f, g, n))), (right, g, rng.choice((0, f, g, n))),
+         (right, n, rng.choice((f, g))), (step, 2, 2), (step, 3, rng.randrange(4))])))
+    return step
+
+
+def sizes(rng, sim):
+    m, v, step = sim.m, vars(sim), plain(rng, sim)
+    n = rng.choice((0, 1, 2, m - 1, m + 1, 2 * m))
+    left, right = [(sim.e, side, (sim.e[side] * 2)[:n]) for side in (0, 1)]
+    col = (v, "col", (sim.col * 2)[:n])
+    make(rng.choice((
+        [left], [right], [col], [left, right, col], [left, right, col, (v, "m", n)],
+        [(v, "m", rng.choice((0, 1, 2, m - 1, m + 1, 4096, 4097, 65535)))],
+        [(v, "r", rng.choice((0, m - 2, m - 1, m, 64, 65, 255, 65535))), (v, "last", 1)])))
+    return step
+
+
+def records(rng, sim):
+    """The record at each limit of code 2 and one beyond."""
+    m, r, b = sim.m, sim.r, sim.bound()
+    field, values = rng.choice((
+        ("i", (0, r, r + 1, r + 2, m - 1, m, m + 1, 65535)), ("k", (0, 1, m - 1, m, m + 1, 65535)),
+        ("owed", (0, 1, 2, r + 1, m - 1, m, 65535)), ("black", (m - 1, m, m + 1, 65535)),
+        ("last", (0, 1, 2, r + 1, r + 2, m - 1, m, m + 1, 65535)), ("inuse", (m, m + 1, 65535)),
+        ("steps", (b - 2, b - 1, b, b + 1, U32)), ("lastc", (b - 1, b, b + 1, U32))))
+    step = plain(rng, sim, rng.choice((None, None, COLLECT, SHADE, 5)))
+    if field in "ik":
+        sim.tag, sim.k = SCAN if field == "k" else rng.randrange(6), rng.randint(1, m)
+    setattr(sim, field, rng.choice(values))
+    return step
+
+
+def limits(rng, sim):
+    """Numbers of a step at their limits, and beyond."""
+    step = plain(rng, sim, rng.choice((TAKE, LINK, LINK, LOOK)))
+    at = rng.choice((1, 5)) if step[0] == LINK else 1
+    count = step[at + 1]
+    make(rng.choice((
+        [(step, at, rng.choice((sim.r - 1, sim.r, sim.r + 1, 64, 255)))],
+        [(step, at + 1, rng.choice((12, 13, 16, 17, 31, 32, 63, 64, 65, 255)))],
+        [(step, at + 2, rng.choice((1 << count, (1 << count) - 1, 4096, 65535)))],
+        [(step, at + 1, 12), (step, at + 2, rng.choice((0, 4095, 4096, 8192, 32768)))],
+        [(step, at + 1, rng.randrange(2)), (step, at + 2, rng.randrange(4))],
+        [(step, 0, rng.choice((5, 255)))], [(step, 4, rng.choice((2, 3, 255)))],
+        *[[(step, j, beyond(rng, step[j]))] for j in range(8)])))
+    return step
+
+
+def order(rng, sim):
+    """Two or three faults at once: the first in the order told is answered."""
+    m, r, v, left, col, edge = sim.m, sim.r, vars(sim), sim.e[0], sim.col, bad_edge(rng, sim)
+    a, b, c, f, g = rng.sample(range(r + 2, m), 5)
+    s, w, t, u = rng.randrange(r), rng.randrange(4), rng.randrange(r), rng.randrange(4)
+    step = [rng.choice((TAKE, LINK)), s, 2, w, rng.randrange(2), t, 2, u]
+    first, then, to, far = sim.e[w & 1], sim.e[w >> 1], sim.e[u & 1], sim.e[u >> 1]
+    sim.owed = None
+    make([(to, t + 2, c), (first, s + 2, a), (then, a, b), (left, 1, f), (left, f, g)])
+    faults = [(sim.e, 0, left + [0]), (v, "m", m + 1), (v, "last", 0), (v, "inuse", m + 1),
+              (v, "i", 65535), (v, "owed", rng.choice((0, 2, m - 1))), (step, 0, 5), (step, 4, 2),
+              (step, 1, r), (step, 2, 13), (step, 3, 4), (first, s + 2, edge), (then, a, edge),
+              (first, s + 2, 0)]
+    if step[0] == LINK:
+        faults += [(step, 5, r), (step, 6, 13), (step, 7, 4), (to, t + 2, edge), (far, c, edge)]
+    else:
+        faults += [(left, 1, r + 1), (left, 1, 0), (left, f, m), (col, f, 3), (col, g, 3)]
+    make(rng.sample(faults, rng.randint(2, 3)))
+    return step
+
+
+# The family, its lines for a seed, and the least and largest M.
+STATES = ((plain, 50, 3, 24), (collecting, 80, 3, 24), (collecting_bad, 60, 3, 16),
+          (damaged, 120, 4, 16), (taking, 70, 7, 14), (sizes, 30, 3, 24), (records, 60, 3, 24),
+          (limits, 70, 3, 12), (order, 80, 10, 14), (sizes, 1, 4096, 4096),
+          (records, 1, 4096, 4096))
+
+
+def sound(rng, low, high):
+    m = rng.randint(low, rng.choice((low, high, high)))
+    s = Schedule(rng, m, rng.randint(1, min(m - 2, rng.choice((1, 2, 3 if low > 3 else 64)))), 3000)
+    s.repeat(0, 20, s.sound)
+    s.maybe(0.5, s.pay)
+    s.sim.collect_many(rng.randrange(8 * m))
+    return s.sim
+
+
+def numbers(sim):
+    owed = (0, 0) if sim.owed is None else (1, sim.owed)
+    out = [sim.m, sim.r, sim.tag, sim.i, sim.k if sim.tag == SCAN else 0, *owed, sim.last,
+           sim.steps, sim.cycles, sim.lastc, sim.black, sim.inuse]
+    for array in (*sim.e, sim.col):
+        out += [len(array), *array]
+    return out
+
+
+def state_lines(seed):
+    rng = random.Random(seed)
+    for family, count, low, high in STATES:
+        for _ in range(count):
+            sim = sound(rng, low, high)
+            step = family(rng, sim)
+            yield numbers(sim) + step
+
+
+def run_lines(seed):
+    rng = random.Random(seed)
+    for _ in range(150):
+        family, _, low, high = rng.choice((STATES[0], rng.choice(STATES)))
+        sim = sound(rng, low, high)
+        steps = [family(rng, sim)] if rng.random() < 0.5 else []
+        for _ in range(rng.choice((0, 0, 1, 2, rng.randint(3, 50)))):
+            kind = rng.choice((TAKE, LINK, COLLECT, COLLECT, COLLECT, LOOK))
+            steps.append([kind, 0, 0, 0, rng.randrange(2), 0, 1, rng.randrange(2)])
+            if kind == LINK and rng.random() < 0.9:
+                steps += [[COLLECT] * 8] * rng.randrange(3) + [[SHADE] * 8]
+        yield numbers(sim) + [len(steps)] + [number for step in steps for number in step]
+
+
+def fresh_lines(seed):
+    rng = random.Random(seed)
+    for j in range(80):
+        m = rng.choice((*range(6), rng.randint(3, 80), 64, 65, 66, 67)) if j else 4095 + seed % 3
+        r = max(0, rng.choice((0, 1, 2, m - 3, m - 2, m - 1, m, 63, 64, 65, rng.randint(1, 64))))
+        line, odd = [m, r], rng.randrange(9)
+        for j, top in enumerate((65536, 65536, 256)):
+            n = rng.choice((0, m + 1, max(0, m - 1), 2 * m)) if odd == j else m
+            line += [n, *rng.choices(range(top), k=n)]
+        yield line
+
+
+MODES = {"": families.schedule, "--state": state_lines, "--run": run_lines, "--fresh": fresh_lines}
+
+
+def text_of(mode, seed):
+    """The input of a seed, as bytes; a schedule if the mode is empty."""
+    made = MODES[mode](seed)
+    return made if mode == "" else "".join(" ".join(map(str, n)) + "\n" for n in made).encode()

@@ -1,0 +1,52 @@
+//! Codes, refusals and answers.
+
+pub const DONE: usize = 0;
+pub const SIZE: usize = 1;
+pub const RECORD: usize = 2;
+pub const SLOT: usize = 3;
+pub const TURNS: usize = 4;
+pub const OWED: usize = 5;
+pub const NOTHING_OWED: usize = 6;
+pub const DAMAGED: usize = 7;
+pub const ABSENT: usize = 8;
+pub const EMPTY: usize = 9;
+pub const UNREADABLE: usize = 10;
+
+/// "A refused step answers node 0 (7 answers the node) and changes nothing."
+pub struct Refusal {
+    pub code: usize,
+    pub node: usize,
+}
+
+pub fn refuse<T>(code: usize) -> Result<T, Refusal> {
+    Err(Refusal { code, node: 0 })
+}
+
+/// "7 damaged | a value read is bad, with the node it belongs to"
+pub fn damaged<T>(node: usize) -> Result<T, Refusal> {
+    let code = DAMAGED;
+    Err(Refusal { code, node })
+}
+
+/// "Each collector step answers what it did and to which node"; the values are
+/// the `did` column of `--state`.
+#[derive(Clone, Copy)]
+pub enum Did {
+    Edited = 0,
+    Shaded = 1,
+    Looked = 2,
+    Blackened = 3,
+    Whitened = 4,
+    Appended = 5,
+}
+
+pub struct Answer {
+    pub did: Did,
+    pub node: usize,
+}
+
+pub type Reply = Result<Answer, Refusal>;
+
+pub fn answer(did: Did, node: usize) -> Reply {
+    Ok(Answer { did, node })
+}

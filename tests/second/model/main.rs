@@ -1,0 +1,63 @@
+//! A second program for the page "What to make and its exact rules".
+//! Quotations in the comments are that page's sentences.
+//!
+//!     rustc -O main.rs -o model
+//!
+//! `model` is the schedule program: standard input to standard output.
+//!
+//! `model --state` reads one state and one step per line, as decimal numbers
+//! between single blanks (shown here in pieces):
+//!
+//!     M R phase i k owing owed last steps cycles last-steps blackened in-use
+//!     len left[0] .. len right[0] .. len colour[0] ..
+//!     kind slot count word side toslot tocount toword
+//!
+//! phase: 0 Roots, 1 Scan, 2 Left, 3 Right, 4 Black, 5 Append; k is read for
+//! Scan only and printed 0 elsewhere. owing: 0 nothing (owed is not read and
+//! is printed 0), 1 a node. Edges have 16 bits, colours 8, cycles 32; every
+//! other number may have 64. A line not of this form prints "bad line". The
+//! answer is one line:
+//!
+//!     code node did, then M R .. colour.. as they are afterwards
+//!
+//! did: 0 an editor step or a refusal, 1 shaded, 2 looked, 3 blackened,
+//! 4 whitened, 5 appended.
+//!
+//! `model --run` has after the arrays the number of steps and then so many
+//! times the eight numbers of a step, and answers: done code M R .. colour..
+//!
+//! `model --fresh` reads: M R len left.. len right.. len colour.. and answers:
+//! code M R .. colour..
+
+mod answer;
+mod collector;
+mod editor;
+mod record;
+mod schedule;
+mod states;
+mod step;
+mod table;
+mod text;
+
+use std::io::{self, BufReader, BufWriter, Write};
+
+fn main() {
+    let arguments: Vec<String> = std::env::args().skip(1).collect();
+    let words: Vec<&str> = arguments.iter().map(|word| word.as_str()).collect();
+    let mut input = BufReader::new(io::stdin().lock());
+    let mut output = BufWriter::new(io::stdout().lock());
+    let result = match words.as_slice() {
+        [] => schedule::program(&mut input, &mut output),
+        ["--state"] => states::program(&mut input, &mut output, states::state_line),
+        ["--run"] => states::program(&mut input, &mut output, states::run_line),
+        ["--fresh"] => states::program(&mut input, &mut output, states::fresh_line),
+        _ => {
+            eprintln!("usage: model [--state | --run | --fresh]");
+            std::process::exit(2);
+        }
+    };
+    // An output that nobody reads any more ends the run quietly.
+    if result.and_then(|_| output.flush()).is_err() {
+        std::process::exit(1);
+    }
+}

@@ -1,0 +1,156 @@
+//! The modes --state, --run and --fresh.
+
+use std::convert::TryFrom;
+use std::io::{self, BufRead, Write};
+
+use crate::answer::DONE;
+use crate::editor::Place;
+use crate::record::{fresh, Phase, Record, LARGEST_CYCLES};
+use crate::step::{do_run, do_step, Step};
+use crate::table::Table;
+
+/// The decimal numbers of one line, taken one after the other.
+pub struct Numbers<'a>(std::str::Split<'a, char>);
+
+impl<'a> Numbers<'a> {
+    fn take(&mut self) -> Option<usize> {
+        self.0.next()?.parse::<usize>().ok()
+    }
+
+    fn phase(&mut self) -> Option<Phase> {
+        let (tag, i, k) = (self.take()?, self.take()?, self.take()?);
+        match tag {
+            0 => Some(Phase::Roots(i)),
+            1 => Some(Phase::Scan(i, k)),
+            2 => Some(Phase::Left(i)),
+            3 => Some(Phase::Right(i)),
+            4 => Some(Phase::Black(i)),
+            5 => Some(Phase::Append(i)),
+            _ => None,
+        }
+    }
+
+    fn owed(&mut self) -> Option<Option<usize>> {
+        let (owing, node) = (self.take()?, self.take()?);
+        [None, Some(node)].get(owing).copied()
+    }
+
+    fn record(&mut self) -> Option<Record> {
+        Some(Record {
+            m: self.take()?,
+            r: self.take()?,
+            phase: self.phase()?,
+            owed: self.owed()?,
+            last: self.take()?,
+            steps: self.take()?,
+            cycles: self.take().filter(|&cycles| cycles <= LARGEST_CYCLES)?,
+            last_cycle_steps: self.take()?,
+            blackened: self.take()?,
+            in_use: self.take()?,
+        })
+    }
+
+    /// A length, then so many numbers that fit.
+    fn array<T: TryFrom<usize>>(&mut self) -> Option<Vec<T>> {
+        let length = self.take()?;
+        let one = |_| T::try_from(self.take()?).ok();
+        (0..length).map(one).collect()
+    }
+
+    fn table(&mut self) -> Option<Table> {
+        let edges = [self.array()?, self.array()?];
+        let colours = self.array()?;
+        Some(Table { edges, colours })
+    }
+
+    fn place(&mut self) -> Option<Place> {
+        let (slot, count, word) = (self.take()?, self.take()?, self.take()?);
+        Some(Place { slot, count, word })
+    }
+
+    fn step(&mut self) -> Option<Step> {
+        Some(Step {
+            kind: self.take()?,
+            place: self.place()?,
+            side: self.take()?,
+            to_place: self.place()?,
+        })
+    }
+
+    /// Nothing stands behind the last number.
+    fn end(&mut self) -> Option<()> {
+        self.0.next().map_or(Some(()), |_| None)
+    }
+}
+
+fn show(record: &Record, table: &Table) -> String {
+    let (tag, k) = match record.phase {
+        Phase::Roots(_) => (0, 0),
+        Phase::Scan(_, k) => (1, k),
+        Phase::Left(_) => (2, 0),
+        Phase::Right(_) => (3, 0),
+        Phase::Black(_) => (4, 0),
+        Phase::Append(_) => (5, 0),
+    };
+    let (owing, owed) = record.owed.map_or((0, 0), |node| (1, node));
+    let mut numbers = vec![record.m, record.r, tag, record.phase.position(), k];
+    numbers.extend([owing, owed, record.last, record.steps, record.cycles]);
+    numbers.extend([record.last_cycle_steps, record.blackened, record.in_use]);
+    for edges in &table.edges {
+        numbers.push(edges.len());
+        numbers.extend(edges.iter().map(|&edge| edge as usize));
+    }
+    numbers.push(table.colours.len());
+    numbers.extend(table.colours.iter().map(|&colour| colour as usize));
+    let words: Vec<String> = numbers.iter().map(|number| number.to_string()).collect();
+    words.join(" ")
+}
+
+pub fn state_line(numbers: &mut Numbers) -> Option<String> {
+    let mut record = numbers.record()?;
+    let mut table = numbers.table()?;
+    let step = numbers.step()?;
+    numbers.end()?;
+    let (code, node, did) = match do_step(&mut table, &mut record, &step) {
+        Ok(answer) => (DONE, answer.node, answer.did as usize),
+        Err(refusal) => (refusal.code, refusal.node, 0),
+    };
+    let after = show(&record, &table);
+    Some(format!("{} {} {} {}", code, node, did, after))
+}
+
+pub fn run_line(numbers: &mut Numbers) -> Option<String> {
+    let mut record = numbers.record()?;
+    let mut table = numbers.table()?;
+    let count = numbers.take()?;
+    let steps: Vec<Step> = (0..count).map(|_| numbers.step()).collect::<Option<_>>()?;
+    numbers.end()?;
+    let (done, code) = do_run(&mut table, &mut record, &steps);
+    Some(format!("{} {} {}", done, code, show(&record, &table)))
+}
+
+pub fn fresh_line(numbers: &mut Numbers) -> Option<String> {
+    let (m, r) = (numbers.take()?, numbers.take()?);
+    let mut table = numbers.table()?;
+    numbers.end()?;
+    let (code, record) = fresh(&mut table, m, r);
+    Some(format!("{} {}", code, show(&record, &table)))
+}
+
+pub fn program(
+    input: &mut dyn BufRead,
+    output: &mut dyn Write,
+    one_line: fn(&mut Numbers) -> Option<String>,
+) -> io::Result<()> {
+    let mut text = Vec::new();
+    loop {
+        text.clear();
+        if input.read_until(b'\n', &mut text)? == 0 {
+            return Ok(());
+        }
+        let line = String::from_utf8_lossy(&text);
+        let mut numbers = Numbers(line.trim_end().split(' '));
+        let result = one_line(&mut numbers).unwrap_or("bad line".to_string());
+        writeln!(output, "{}", result)?;
+    }
+}
