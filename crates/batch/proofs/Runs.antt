@@ -15,10 +15,10 @@ use Rattle.rules.specs.Collector.{phaseStep, collect}
 use Rattle.rules.specs.Steps.{step, collecting, codeOf}
 use Rattle.rules.specs.Facts.{Good, Inside}
 use Rattle.rules.proofs.Good.{good, inside}
+use Rattle.rules.proofs.Refused.{refused-stays}
 use Rattle.rules.proofs.Laws.{step-collecting, unless-refused}
 use Rattle.strides.specs.Leads.{lasted, more, Passes, Room, Leads, fineOk}
 use Rattle.strides.proofs.Steady.{Kept, kept, steps-below, passes-again, now-spoilt}
-use Rattle.strides.proofs.Refusals.{back}
 use Rattle.strides.proofs.Strides.{step-is, done-on}
 use Rattle.batch.specs.Turns.{Turn}
 
@@ -46,7 +46,7 @@ turned b s t d o q p w =
       m = k .rec .m ∙ p .m;
       r = k .rec .r ∙ p .r;
       goes = λ f n e a. p .same n e a ∙ done-on t o n (e + d) a v f;
-      stops = λ f n e a. p .same n e a ∙ refused-at t o n (e + d) a v f ∙ ap (lasted (e + d) (o .answer)) (sym (rw (← w) at (back t (t .rec .phase)) f));
+      stops = λ f n e a. p .same n e a ∙ refused-at t o n (e + d) a v f ∙ ap (lasted (e + d) (o .answer)) (sym (rw (← v) at (refused-stays t collecting) f));
       passes = λ f. record { code = passes-again t (p .passes .code) o k (rw (← u) f) };
       spoilt = λ f. now-spoilt t (p .passes .code) o k (rw (← u) f);
     }

@@ -1,5 +1,4 @@
 pub mod Steady
-pub mod Refusals
 pub mod Strides
 pub mod Looks
 pub mod Visits
