@@ -30,8 +30,8 @@ fn target(a: Step) -> Place
     }
 }
 
-// The code of a kind that is none: 1, 2, else 10.
-fn unreadable(lefts: usize, rights: usize, colours: usize, x: Record) -> u8
+// The code of what is no step: 1, 2, else 10.
+pub fn unreadable(lefts: usize, rights: usize, colours: usize, x: Record) -> u8
     ensures { λ code. ⌜ code ≡ unreadable lefts rights colours x ⌝ }
 {
     let code = rules::check(lefts, rights, colours, x);

@@ -13,15 +13,15 @@ ghost use Rattle.rules.specs.Schedules.{ran, schedule};
 ghost use Rattle.schedule.specs.Stands.{begun, after};
 
 // Where a run stands: the next step, the step before which it ends, the code, and the record.
-struct Going {
-    at: usize,
-    end: usize,
-    code: u8,
-    rec: Record,
+pub struct Going {
+    pub at: usize,
+    pub end: usize,
+    pub code: u8,
+    pub rec: Record,
 }
 
 // Codes 1 and 2, judged for an empty run too.
-fn begin(lefts: usize, rights: usize, colours: usize, x: Record, n: usize) -> Going
+pub fn begin(lefts: usize, rights: usize, colours: usize, x: Record, n: usize) -> Going
     ensures { λ g. ⌜ g ≡ begun (checkOf lefts rights colours x) n x ⌝ }
 {
     let judged = rules::check(lefts, rights, colours, x);
@@ -67,7 +67,7 @@ fn after(g: Going, made: Made) -> Going
 }
 
 // One step.
-fn advance(left: &mut [u16], right: &mut [u16], colour: &mut [u8], g: Going, a: Step) -> Going
+pub fn advance(left: &mut [u16], right: &mut [u16], colour: &mut [u8], g: Going, a: Step) -> Going
     requires { ⌜ g .at < g .end ⌝ }
     ensures { λ r. ⌜ ((d : Made) × ((outcome d (now (left .exit)) (now (right .exit)) (now (colour .exit)) ≡ step a (state (now (left .entry)) (now (right .entry)) (now (colour .entry)) (g .rec))) × (r ≡ after g (d .answer) (d .rec)))) ⌝ }
 {

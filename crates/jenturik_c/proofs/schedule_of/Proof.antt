@@ -1,0 +1,41 @@
+use borrow.Author.Needs.{needs}
+use Rattle.base.proofs.Tests.{pick-yes, pick-no, eq-yes, eq-no}
+use Rattle.calls.specs.Unreadable.{unreadable}
+use Rattle.jenturik_c.specs.Flat.{scheduleOf}
+use Rattle.jenturik_c.proofs.schedule_of.Statement.{statement}
+use Rattle.jenturik_c.proofs.schedule_of.Tie as tie
+
+unreadable-requires : tie.Need-unreadable-requires
+unreadable-requires c κs = search needs
+
+returns : tie.Need-returns
+unfolding scheduleOf unreadable
+returns c = pick-no _ _ _ _ (eq-no _ _ (c .before .if1 .taken)) (rw (c .unreadable .ensures))
+
+follow-requires : tie.Need-follow-requires
+follow-requires c κs = search needs
+
+same-length : tie.Need-same-length
+same-length c = search needs
+
+same-length-2 : tie.Need-same-length-2
+same-length-2 c = search needs
+
+same-length-3 : tie.Need-same-length-3
+same-length-3 c = search needs
+
+returns-2 : tie.Need-returns-2
+unfolding scheduleOf unreadable
+returns-2 c = pick-yes _ _ _ _ (eq-yes _ _ (c .before .before .before .before .before .before .before .before .before .before .if1 .left)) (c .before .before .before .before .before .before .follow .ensures)
+
+pub schedule-of-spec : {M : Type 1} → statement M
+schedule-of-spec =
+    tie.close
+    (tie.spec
+    unreadable-requires
+    returns
+    follow-requires
+    same-length
+    same-length-2
+    same-length-3
+    returns-2)

@@ -1,0 +1,24 @@
+use borrow.Author.Needs.{needs}
+use Rattle.jenturik_c.proofs.tell.Statement.{statement}
+use Rattle.jenturik_c.proofs.tell.Tie as tie
+
+what-requires : tie.Need-what-requires
+what-requires c κs = search needs
+
+code-requires : tie.Need-code-requires
+code-requires c κs = search needs
+
+cast-t4 : tie.Need-cast-t4
+cast-t4 c = search needs
+
+node-requires : tie.Need-node-requires
+node-requires c κs = search needs
+
+cast-t6 : tie.Need-cast-t6
+cast-t6 c = search needs
+
+returns : tie.Need-returns
+returns c = cc
+
+pub tell-spec : {M : Type 1} → statement M
+tell-spec = tie.close (tie.spec what-requires code-requires cast-t4 node-requires cast-t6 returns)

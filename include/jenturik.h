@@ -1,0 +1,145 @@
+/* Jenturik: an on-the-fly garbage collector for graphs of nodes with two edges each, one step a call.
+ *
+ * The caller keeps everything: three arrays (left edges, right edges, colours) of M entries each, M from 3 to 4096, and the record, an array of
+ * sixteen 32-bit words. Each array is handed over as a pointer and a number of entries. A call reads and writes these arrays only, as told at each
+ * call below; it keeps nothing, allocates nothing, and ends, whatever they hold. A pointer may be null where its number of entries is 0.
+ *
+ * A refused call has a code above 0 and changes nothing, neither in the arrays nor in the words (jenturik_fresh apart, which writes the words
+ * whatever it answers). Words that are no record's are refused with code 2.
+ *
+ * Node 0 is NIL, node 1 is FREE (its left edge is the first free node), slot s is node s + 2. There are R slots, 1 to 64, and R + 2 is at most M.
+ * A place is a slot, a count of turns (0 to 12) and a word whose bit j, lowest first, is turn j: 0 left, 1 right; the other bits are 0.
+ * A side is 0, left, or 1, right. Numbers out of range are refused, however large they are.
+ *
+ * The calls are not to be made at the same time from two threads over the same arrays.
+ */
+#ifndef JENTURIK_H
+#define JENTURIK_H
+
+#include <stddef.h>
+#include <stdint.h>
+
+#ifdef __cplusplus
+extern "C" {
+#endif
+
+/* The record's words. */
+enum {
+    JENTURIK_NODES = 0,      /* M */
+    JENTURIK_SLOTS = 1,      /* R */
+    JENTURIK_PHASE = 2,      /* 0 Roots, 1 Scan, 2 Left, 3 Right, 4 Black, 5 Append */
+    JENTURIK_I = 3,          /* the phase's i */
+    JENTURIK_K = 4,          /* Scan's k; 0 in the other phases */
+    JENTURIK_OWES = 5,       /* 1 where a shade is owed, else 0 */
+    JENTURIK_OWED = 6,       /* the node owed, which may be 0; 0 where none is */
+    JENTURIK_LAST = 7,       /* the last free node; 1 where the free list is empty */
+    JENTURIK_STEPS = 8,      /* collector steps of this cycle */
+    JENTURIK_CYCLES = 9,     /* cycles completed; stays at its largest value */
+    JENTURIK_TOOK = 10,      /* collector steps of the last completed cycle */
+    JENTURIK_BLACKENED = 11, /* nodes blackened in this marking */
+    JENTURIK_IN_USE = 12,    /* nodes in use: nodes blackened in the last completed marking */
+    JENTURIK_WORDS = 16      /* words 13, 14 and 15 have no use yet and are 0 */
+};
+
+/* What was done. */
+enum {
+    JENTURIK_REFUSED = 0,
+    JENTURIK_STARTED = 1,
+    JENTURIK_NAMED = 2,
+    JENTURIK_LINKED = 3,
+    JENTURIK_TAKEN = 4,
+    JENTURIK_SHADED = 5,
+    JENTURIK_LOOKED = 6,
+    JENTURIK_MADE_BLACK = 7,
+    JENTURIK_WHITENED = 8,
+    JENTURIK_APPENDED = 9
+};
+
+/* Codes: why a call was refused. */
+enum {
+    JENTURIK_DONE = 0,
+    JENTURIK_BAD_SIZE = 1,        /* M or R out of range, or the lengths and the record's M differ */
+    JENTURIK_BAD_RECORD = 2,      /* words that are no record's, or a number of the record out of its range */
+    JENTURIK_NO_SLOT = 3,         /* a place's slot is not below R */
+    JENTURIK_BAD_TURNS = 4,       /* more than 12 turns, or bits at or above the count */
+    JENTURIK_SHADE_IS_OWED = 5,   /* Link or Take before the last Link's Shade */
+    JENTURIK_NOTHING_IS_OWED = 6, /* Shade where none is */
+    JENTURIK_DAMAGED = 7,         /* a bad edge or colour; the answer has its node */
+    JENTURIK_SOURCE_IS_NIL = 8,
+    JENTURIK_NO_FREE_NODE = 9,
+    JENTURIK_UNREADABLE = 10      /* a side above 1, a kind above 4, a schedule whose words are not eight to a step */
+};
+
+/* An answer: what was done, the code, and the node (of a refusal: code 7's, else 0). */
+typedef struct {
+    uint32_t what, code, node;
+} jenturik_told;
+
+/* A schedule's answer: how many steps were done, and the code of the one that was refused, or 0. */
+typedef struct {
+    size_t done;
+    uint32_t code;
+} jenturik_done;
+
+/* The answer of many collector steps: how many were done, and the answer of the last one, or of the one that was refused. */
+typedef struct {
+    size_t done;
+    uint32_t what, code, node;
+} jenturik_last;
+
+/* A step of a schedule. The kinds are 0 take, 1 link, 2 shade, 3 collect, 4 look; fields that a kind has no use for are not read. */
+typedef struct {
+    uint32_t kind, slot, count, word, side, toslot, tocount, toword;
+} jenturik_step;
+
+/* Makes a fresh table of `nodes` nodes and `slots` slots in arrays of `nodes` entries, and its record: no edges, every node white, the nodes from
+ * R + 2 on free, in rising order. Answers the last free node. Writes all three arrays and the words. Refused (1): the arrays stay, and the words
+ * are the record of a table of no nodes, which every other call refuses. */
+jenturik_told jenturik_fresh(uint16_t *left, size_t lefts, uint16_t *right, size_t rights, uint8_t *colour, size_t colours,
+                             uint32_t words[JENTURIK_WORDS], uint32_t nodes, uint32_t slots);
+
+/* Names the node at a place, 0 for NIL. Writes nothing. */
+jenturik_told jenturik_look(const uint16_t *left, size_t lefts, const uint16_t *right, size_t rights, const uint8_t *colour, size_t colours,
+                            const uint32_t words[JENTURIK_WORDS], uint32_t slot, uint32_t count, uint32_t word);
+
+/* Points the edge of the node at the source place, on a side, to the node at the target place. Answers the target, whose shade is then owed:
+ * jenturik_shade comes before the next link or take. Writes one edge and the words. */
+jenturik_told jenturik_link(uint16_t *left, size_t lefts, uint16_t *right, size_t rights, const uint8_t *colour, size_t colours,
+                            uint32_t words[JENTURIK_WORDS], uint32_t slot, uint32_t count, uint32_t word, uint32_t side, uint32_t toslot,
+                            uint32_t tocount, uint32_t toword);
+
+/* Shades the node owed and answers it. Writes one colour and the words. */
+jenturik_told jenturik_shade(const uint16_t *left, size_t lefts, const uint16_t *right, size_t rights, uint8_t *colour, size_t colours,
+                             uint32_t words[JENTURIK_WORDS]);
+
+/* Takes the first free node off the free list and points the edge of the node at the source place, on a side, to it; its left edge becomes NIL (its
+ * right edge is NIL in every run from a fresh table). Answers it. Writes three edges, at most two colours and the words. */
+jenturik_told jenturik_take(uint16_t *left, size_t lefts, uint16_t *right, size_t rights, uint8_t *colour, size_t colours,
+                            uint32_t words[JENTURIK_WORDS], uint32_t slot, uint32_t count, uint32_t word, uint32_t side);
+
+/* One step of the collector. Answers what it did and to which node. Writes at most three edges and one colour, and the words. */
+jenturik_told jenturik_collect(uint16_t *left, size_t lefts, uint16_t *right, size_t rights, uint8_t *colour, size_t colours,
+                               uint32_t words[JENTURIK_WORDS]);
+
+/* n steps of the collector, or as many as are done before one is refused: exactly what n calls of jenturik_collect do, much faster. Where n is 0,
+ * codes 1 and 2 are judged and nothing is done. */
+jenturik_last jenturik_collect_many(uint16_t *left, size_t lefts, uint16_t *right, size_t rights, uint8_t *colour, size_t colours,
+                                    uint32_t words[JENTURIK_WORDS], size_t n);
+
+/* A schedule: the steps in order until one is refused, which changes nothing while the earlier ones stand. The steps are `numbers` words, eight to a
+ * step in the order of jenturik_step; a number that is no multiple of eight is refused (10) with nothing done. Codes 1 and 2 are judged for an empty
+ * schedule too. The steps are not written. */
+jenturik_done jenturik_schedule(uint16_t *left, size_t lefts, uint16_t *right, size_t rights, uint8_t *colour, size_t colours,
+                                uint32_t words[JENTURIK_WORDS], const uint32_t *steps, size_t numbers);
+
+/* The same over an array of `count` steps. */
+static inline jenturik_done jenturik_schedule_steps(uint16_t *left, size_t lefts, uint16_t *right, size_t rights, uint8_t *colour, size_t colours,
+                                                    uint32_t words[JENTURIK_WORDS], const jenturik_step *steps, size_t count) {
+    return jenturik_schedule(left, lefts, right, rights, colour, colours, words, (const uint32_t *)steps, 8 * count);
+}
+
+#ifdef __cplusplus
+}
+#endif
+
+#endif
