@@ -84,7 +84,8 @@ typedef struct {
 /* The answer of many collector steps: how many were done, and the answer of the last one, or of the one that was refused. */
 typedef struct {
     size_t done;
-    uint32_t what, code, node;
+    uint16_t what, code;
+    uint32_t node;
 } jenturik_last;
 
 /* A step of a schedule. The kinds are 0 take, 1 link, 2 shade, 3 collect, 4 look; fields that a kind has no use for are not read. */

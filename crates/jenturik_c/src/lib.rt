@@ -34,12 +34,12 @@ pub struct Done {
 #[repr(C)]
 pub struct Last {
     pub done: usize,
-    pub what: u32,
-    pub code: u32,
+    pub what: u16,
+    pub code: u16,
     pub node: u32,
 }
 
-fn what(a: Answer) -> u32
+fn what(a: Answer) -> u16
     ensures { λ n. ⌜ n ≡ whatOf a ⌝ }
 {
     match a {
@@ -60,7 +60,7 @@ fn tell(a: Answer) -> Told
     ensures { λ t. ⌜ t ≡ toldOf a ⌝ }
 {
     Told {
-        what: what(a),
+        what: what(a) as u32,
         code: a.code() as u32,
         node: a.node() as u32,
     }
@@ -251,12 +251,11 @@ pub extern "C" fn jenturik_collect_many(
     let answer = many.answer;
     let v = words::words_of(rec);
     *words = v;
-    let t = tell(answer);
     Last {
         done: many.done,
-        what: t.what,
-        code: t.code,
-        node: t.node,
+        what: what(answer),
+        code: answer.code() as u16,
+        node: answer.node() as u32,
     }
 }
 

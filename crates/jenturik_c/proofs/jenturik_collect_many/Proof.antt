@@ -20,8 +20,20 @@ collect-many-requires c κs = search needs
 words-of-requires : tie.Need-words-of-requires
 words-of-requires c κs = search needs
 
-tell-requires : tie.Need-tell-requires
-tell-requires c κs = search needs
+what-requires : tie.Need-what-requires
+what-requires c κs = search needs
+
+code-requires : tie.Need-code-requires
+code-requires c κs = search needs
+
+cast-t22 : tie.Need-cast-t22
+cast-t22 c = search needs
+
+node-requires : tie.Need-node-requires
+node-requires c κs = search needs
+
+cast-t24 : tie.Need-cast-t24
+cast-t24 c = search needs
 
 same-length : tie.Need-same-length
 same-length c = search needs
@@ -33,7 +45,7 @@ same-length-3 : tie.Need-same-length-3
 same-length-3 c = search needs
 
 returns-2 : tie.Need-returns-2
-returns-2 c = (rw (c .tell .ensures) (faces-run _ _ _ _ _ _ _ _ _ (not-no _ (c .before .before .before .before .before .before .before .before .before .before .before .before .before .before .if1 .left) ∙ c .before .before .before .before .before .before .before .before .before .before .before .before .before .before .before .is-record .ensures) (c .before .before .before .before .before .before .before .before .before .before .record-of .ensures) _ _ _ _ (c .before .before .before .before .before .before .before .before .before .collect-many .ensures .0) (c .before .words-of .ensures)), faces-last _ _ _ _ _ _ _ _ (not-no _ (c .before .before .before .before .before .before .before .before .before .before .before .before .before .before .if1 .left) ∙ c .before .before .before .before .before .before .before .before .before .before .before .before .before .before .before .is-record .ensures) (c .before .before .before .before .before .before .before .before .before .before .record-of .ensures) (c .before .before .before .before .before .before .before .before .before .collect-many .ensures .1) (c .tell .ensures))
+returns-2 c = (rw (c .before .code .ensures) (faces-run _ _ _ _ _ _ _ _ _ (not-no _ (c .before .before .before .before .before .before .before .before .before .before .before .before .before .before .before .before .if1 .left) ∙ c .before .before .before .before .before .before .before .before .before .before .before .before .before .before .before .before .before .is-record .ensures) (c .before .before .before .before .before .before .before .before .before .before .before .before .record-of .ensures) _ _ _ _ (c .before .before .before .before .before .before .before .before .before .before .before .collect-many .ensures .0) (c .before .before .before .words-of .ensures)), faces-last _ _ _ _ _ _ _ _ (not-no _ (c .before .before .before .before .before .before .before .before .before .before .before .before .before .before .before .before .if1 .left) ∙ c .before .before .before .before .before .before .before .before .before .before .before .before .before .before .before .before .before .is-record .ensures) (c .before .before .before .before .before .before .before .before .before .before .before .before .record-of .ensures) (c .before .before .before .before .before .before .before .before .before .before .before .collect-many .ensures .1) (rw (c .before .before .what .ensures, c .before .code .ensures, c .node .ensures)))
 
 pub jenturik-collect-many-spec : {M : Type 1} → statement M
 jenturik-collect-many-spec =
@@ -44,7 +56,11 @@ jenturik-collect-many-spec =
     record-of-requires
     collect-many-requires
     words-of-requires
-    tell-requires
+    what-requires
+    code-requires
+    cast-t22
+    node-requires
+    cast-t24
     same-length
     same-length-2
     same-length-3
