@@ -66,7 +66,7 @@ static void make(int kind, uint32_t m) {
 static uint64_t hash(const uint32_t *w) {
   uint64_t h = 1469598103934665603u;
   for (size_t i = 0; i < table.colours; i++) h = (h ^ ((uint64_t)left[i] << 32 | (uint64_t)right[i] << 8 | colour[i])) * 1099511628211u;
-  for (size_t i = 0; i < 13; i++) h = (h ^ w[i]) * 1099511628211u;
+  for (size_t i = 0; i < JENTURIK_WORDS; i++) h = (h ^ w[i]) * 1099511628211u;
   return h;
 }
 
@@ -76,8 +76,8 @@ static double now(void) {
   return t.tv_sec * 1e9 + t.tv_nsec;
 }
 
-enum { C_SINGLE, SINGLE, SINGLE_LOOP, C_MEMCHR, BATCH, VARIANTS };
-static const char *const variant_keys[VARIANTS] = {"c-single", "single", "single-loop", "c-memchr", "batch"};
+enum { C_SINGLE, SINGLE, SINGLE_LOOP, COLLECT, C_MEMCHR, BATCH, VARIANTS };
+static const char *const variant_keys[VARIANTS] = {"c-single", "single", "single-loop", "collect", "c-memchr", "batch"};
 
 static uint64_t ended; /* the hash after the last run */
 
@@ -85,19 +85,20 @@ static uint64_t ended; /* the hash after the last run */
 static double run(int variant, size_t n, size_t each) {
   struct record x = start;
   struct answer a = {NAMED, 0, 0};
-  uint32_t w[13];
+  uint32_t w[JENTURIK_WORDS];
   size_t done = 0;
-  words_of(w, &x, a);
+  words_of(w, &x);
   double t = now();
   switch (variant) {
   case C_SINGLE: while (done < n) { a = plain_step(&table, &x); if (a.code) break; done++; } break;
   case SINGLE: while (done < n) { if (!library_steps(&table, w, 1)) break; done++; } break;
   case SINGLE_LOOP: done = library_steps(&table, w, n); break;
+  case COLLECT: while (done < n) { if (library_collect(&table, w).code) break; done++; } break;
   case C_MEMCHR: while (done < n) { size_t m = n - done < each ? n - done : each, d = plain_many(&table, &x, m, &a); done += d; if (d < m) break; } break;
-  case BATCH: while (done < n) { size_t m = n - done < each ? n - done : each, d = library_many(&table, w, m); done += d; if (d < m) break; } break;
+  case BATCH: while (done < n) { size_t m = n - done < each ? n - done : each, d = library_many(&table, w, m).done; done += d; if (d < m) break; } break;
   }
   t = now() - t;
-  if (variant == C_SINGLE || variant == C_MEMCHR) words_of(w, &x, a);
+  if (variant == C_SINGLE || variant == C_MEMCHR) words_of(w, &x);
   if (done != n) fprintf(stderr, "bench: %s was refused\n", variant_keys[variant]), exit(1);
   ended = hash(w);
   return t;
@@ -119,11 +120,10 @@ static double least(int kind, uint32_t m, int variant, size_t n, size_t each) {
 
 /* The steps of the first cycle. */
 static size_t cycle(int kind, uint32_t m) {
-  uint32_t w[13];
-  struct answer none = {NAMED, 0, 0};
-  make(kind, m), words_of(w, &start, none);
-  while (w[8] == 0) library_many(&table, w, 1);
-  return w[9];
+  uint32_t w[JENTURIK_WORDS];
+  make(kind, m), words_of(w, &start);
+  while (w[JENTURIK_CYCLES] == 0) library_many(&table, w, 1);
+  return w[JENTURIK_TOOK];
 }
 
 static double times[VARIANTS];
@@ -141,15 +141,16 @@ static void measure(int kind, uint32_t m, size_t n, size_t each, const char *par
 
 static void per_step(void) {
   static const uint32_t sizes[] = {64, 512, 4096};
-  puts("| table | M | steps | C single | single | single, loop | C memchr | batch | single / C | loop / C | batch / C single | batch / C memchr |");
-  puts("|---|---|---|---|---|---|---|---|---|---|---|---|");
+  puts("| table | M | steps | C single | single | single, loop | archive | C memchr | batch | single / C | loop / C | archive / C | batch / C single | batch / C memchr |");
+  puts("|---|---|---|---|---|---|---|---|---|---|---|---|---|---|");
   for (int kind = 0; kind < TABLES; kind++)
     for (int s = 0; s < 3; s++) {
       size_t n = cycle(kind, sizes[s]);
       measure(kind, sizes[s], n, n, "cycle");
       printf("| %s | %u | %zu ", table_names[kind], sizes[s], n);
       for (int v = 0; v < VARIANTS; v++) printf("| %.4g ", times[v] / n);
-      printf("| %.2f | %.2f | 1 : %.0f | %.3f |\n", times[SINGLE] / times[C_SINGLE], times[SINGLE_LOOP] / times[C_SINGLE], times[C_SINGLE] / times[BATCH], times[BATCH] / times[C_MEMCHR]);
+      printf("| %.2f | %.2f | %.2f | 1 : %.0f | %.3f |\n", times[SINGLE] / times[C_SINGLE], times[SINGLE_LOOP] / times[C_SINGLE], times[COLLECT] / times[C_SINGLE],
+             times[C_SINGLE] / times[BATCH], times[BATCH] / times[C_MEMCHR]);
       fflush(stdout);
     }
 }

@@ -10,8 +10,9 @@
 struct place {
   uint16_t left[MOST], right[MOST];
   uint8_t colour[MOST];
-  uint32_t words[13];
+  uint32_t words[JENTURIK_WORDS];
   size_t done;
+  struct answer answer; /* of the last step, or of the one that was refused */
 };
 
 static struct place begun, batch, steps, plain;
@@ -92,7 +93,12 @@ static void by_plain(size_t n) {
     a = plain_step(&t, &x);
     if (!a.code) plain.done++;
   }
-  words_of(plain.words, &x, a);
+  words_of(plain.words, &x), plain.answer = a;
+}
+
+static void by_batch(size_t n) {
+  jenturik_last a = library_many(&t, batch.words, n);
+  batch.done = a.done, batch.answer = (struct answer){a.what, a.code, a.node};
 }
 
 static int differ(const struct place *a, const struct place *b) {
@@ -106,7 +112,6 @@ int main(int argc, char **argv) {
   if (!runs) return fprintf(stderr, "diff RUNS\n"), 2;
   for (uint64_t k = 0; k < runs; k++) {
     uint32_t m = 3 + below(one_in(200) ? 4094 : one_in(4) ? 300 : 12);
-    struct answer none = {NAMED, 0, 0};
     size_t n = one_in(4) ? below(6) : below(2 * m * m + 50);
     if (n > 60000) n = 60000;
     memset(&begun, 0, sizeof begun);
@@ -114,14 +119,13 @@ int main(int argc, char **argv) {
     for (uint32_t d = one_in(3) ? below(3) : 0; d > 0; d--) damage(m);
     t.lefts = t.rights = t.colours = m;
     if (one_in(60)) *(size_t *[]){&t.lefts, &t.rights, &t.colours}[below(3)] = below(m + 3);
-    words_of(begun.words, &x, none);
-    lend(&batch), batch.done = library_many(&t, batch.words, n);
+    words_of(begun.words, &x);
+    lend(&batch), by_batch(n);
     lend(&steps), steps.done = library_steps(&t, steps.words, n);
     by_plain(n);
-    if (n == 0) steps.words[12] = plain.words[12]; /* no single step judges an empty run */
-    if (differ(&batch, &steps) || differ(&batch, &plain))
+    if (differ(&batch, &steps) || differ(&batch, &plain) || memcmp(&batch.answer, &plain.answer, sizeof batch.answer))
       return printf("run %llu differs: M = %u, n = %zu\n", (unsigned long long)k, m, n), 1;
-    made += batch.done, codes[batch.words[12] >> 16 & 255]++;
+    made += batch.done, codes[batch.answer.code]++;
   }
   printf("%llu runs, %llu steps, no difference; code 0: %llu, 1: %llu, 2: %llu, 7: %llu\n", (unsigned long long)runs, (unsigned long long)made,
          (unsigned long long)codes[0], (unsigned long long)codes[1], (unsigned long long)codes[2], (unsigned long long)codes[7]);

@@ -5,7 +5,7 @@
 #include <stdint.h>
 
 enum phase { ROOTS, SCAN, LEFT, RIGHT, BLACK, APPEND };
-enum kind { STARTED, NAMED, LINKED, TAKEN, SHADED, LOOKED, BLACKENED, WHITENED, APPENDED, REFUSED };
+enum kind { REFUSED, STARTED, NAMED, LINKED, TAKEN, SHADED, LOOKED, BLACKENED, WHITENED, APPENDED };
 
 struct record {
   uint16_t m, r, phase, i, k;
