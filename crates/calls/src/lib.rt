@@ -47,7 +47,7 @@ pub fn step(left: &mut [u16], right: &mut [u16], colour: &mut [u8], x: Record, a
 {
     let kind = a.kind;
     if kind == 0 {
-        return editor::take(left, right, colour, x, source(a), a.side);
+        return take::take(left, right, colour, x, source(a), a.side);
     }
     if kind == 1 {
         return editor::link(left, right, colour, x, source(a), a.side, target(a));

@@ -24,7 +24,7 @@ fn shade_step(colour: &mut [u8], x: Record, n: u16, then: Phase) -> Made
             rec: x,
         };
     }
-    rules::shade_node(colour, n);
+    table::shade_node(colour, n);
     Made {
         answer: Answer::Shaded(n),
         rec: x.moved(then),
@@ -77,7 +77,7 @@ fn edge_step(colour: &mut [u8], x: Record, i: u16, e: u16, then: Phase) -> Made
     requires { ⌜ (x .m ≤ length (now colour)) × (x .steps < 20000000) ⌝ }
     ensures { λ r. ⌜ ((l k : List ℕ) → outcome r l k (now (colour .exit)) ≡ edgeStep (state l k (now (colour .entry)) x) i e then) ⌝ }
 {
-    if rules::bad_edge(x.m, e) {
+    if table::bad_edge(x.m, e) {
         return Made {
             answer: Answer::Refused(7, i),
             rec: x,
@@ -167,14 +167,14 @@ pub fn phase_step(
             colour,
             x,
             i,
-            rules::edge(left, right, 0, i),
+            table::edge(left, right, 0, i),
             Phase::Right(i),
         ),
         Phase::Right(i) => edge_step(
             colour,
             x,
             i,
-            rules::edge(left, right, 1, i),
+            table::edge(left, right, 1, i),
             Phase::Black(i),
         ),
         Phase::Black(i) => black_step(colour, x, i),

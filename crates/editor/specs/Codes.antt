@@ -7,8 +7,6 @@ use Rattle.rules.specs.Places.{placeCode}
 use Rattle.rules.specs.Editor.{sideCode, owedCode}
 use Rattle.rules.specs.declared.Record.{Record}
 use Rattle.rules.specs.declared.Place.{Place}
-use Rattle.rules.specs.declared.Walk.{Walk}
-use Rattle.rules.specs.declared.Walk.the-variants.{At, Damaged}
 
 -- the refusals that read nothing of the table, in order
 unfoldable pub lookCode : ℕ → ℕ → ℕ → Record → Place → ℕ
@@ -17,12 +15,3 @@ lookCode ll rl cl x p = first (checkOf ll rl cl x ∷ placeCode (x .r) p ∷ [])
 unfoldable pub linkCode : ℕ → ℕ → ℕ → Record → Place → ℕ → Place → ℕ
 linkCode ll rl cl x p side q =
     first (checkOf ll rl cl x ∷ sideCode side ∷ placeCode (x .r) p ∷ placeCode (x .r) q ∷ owedCode (x .owed) ∷ [])
-
-unfoldable pub takeCode : ℕ → ℕ → ℕ → Record → Place → ℕ → ℕ
-takeCode ll rl cl x p side =
-    first (checkOf ll rl cl x ∷ sideCode side ∷ placeCode (x .r) p ∷ owedCode (x .owed) ∷ [])
-
--- the node where a walk ended, arrived or not
-abbrev pub stood : Walk → ℕ
-stood (At n) = n
-stood (Damaged n) = n

@@ -196,7 +196,7 @@ pub extern "C" fn jenturik_take(
         return no_record();
     }
     let p = Place { slot, count, word };
-    let made = editor::take(left, right, colour, words::record_of(w), p, side);
+    let made = take::take(left, right, colour, words::record_of(w), p, side);
     let rec = made.rec;
     let answer = made.answer;
     let v = words::words_of(rec);

@@ -11,7 +11,7 @@ use Rattle.fresh.proofs.fresh.Reads as fresh-call
 use Rattle.editor.proofs.look.Reads as look-call
 use Rattle.editor.proofs.link.Reads as link-call
 use Rattle.editor.proofs.shade.Reads as shade-call
-use Rattle.editor.proofs.take.Reads as take-call
+use Rattle.take.proofs.take.Reads as take-call
 use Rattle.collector.proofs.collect.Reads as collect-call
 use Rattle.calls.proofs.step.Reads as step-call
 

@@ -7,7 +7,7 @@ use Rattle.fresh.proofs.fresh.Reads as fresh
 use Rattle.editor.proofs.look.Reads as look
 use Rattle.editor.proofs.link.Reads as link
 use Rattle.editor.proofs.shade.Reads as shade
-use Rattle.editor.proofs.take.Reads as take
+use Rattle.take.proofs.take.Reads as take
 use Rattle.collector.proofs.collect.Reads as collect
 use Rattle.calls.proofs.step.Reads as step
 

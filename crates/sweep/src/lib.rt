@@ -27,7 +27,7 @@ fn shading(colour: &mut [u8], i: usize, cap: usize) -> usize
         if 2 < colour[i + d] {
             return d;
         }
-        rules::shade_node(colour, (i + d) as u16);
+        table::shade_node(colour, (i + d) as u16);
         d += 1;
     }
     d

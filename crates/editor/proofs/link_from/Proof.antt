@@ -2,7 +2,7 @@ use Prim.Native.Nat.{_-_}
 use native.Mathlib.Omega.{arith}
 use borrow.Author.Needs.{needs}
 use Rattle.rules.proofs.Walks.{at-below}
-use Rattle.editor.proofs.Arrivals.{departs, absent, halts}
+use Rattle.places.proofs.Arrivals.{departs, absent, halts}
 use Rattle.editor.proofs.link_from.Statement.{statement}
 use Rattle.editor.proofs.link_from.Tie as tie
 

@@ -1,7 +1,7 @@
 use Prim.Native.Nat.{_-_}
 use borrow.Author.Needs.{needs}
 use Rattle.rules.specs.Editor.{linkTo}
-use Rattle.editor.proofs.Arrivals.{arrives, stops, leaves}
+use Rattle.places.proofs.Arrivals.{arrives, stops, leaves}
 use Rattle.editor.proofs.link_to.Statement.{statement}
 use Rattle.editor.proofs.link_to.Tie as tie
 

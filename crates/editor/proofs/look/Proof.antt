@@ -8,7 +8,7 @@ use Rattle.rules.proofs.Good.{good}
 use Rattle.rules.proofs.Laws.{unless-done, unless-refused, step-looking}
 use Rattle.rules.proofs.Walks.{slot-below}
 use Rattle.editor.specs.Codes.{lookCode}
-use Rattle.editor.proofs.Arrivals.{arrives, stops}
+use Rattle.places.proofs.Arrivals.{arrives, stops}
 use Rattle.editor.proofs.look.Statement.{statement}
 use Rattle.editor.proofs.look.Tie as tie
 

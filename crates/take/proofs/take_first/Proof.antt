@@ -1,0 +1,53 @@
+use Prim.Native.Nat.{_-_}
+use mathlib.Core.Path.{refl, sym, _∙_}
+use native.Mathlib.Omega.{arith}
+use borrow.Author.Needs.{needs}
+use Rattle.base.proofs.Tests.{tests, pick-yes, pick-no, eq-no}
+use Rattle.rules.specs.Editor.{takeFirst}
+use Rattle.rules.proofs.Laws.{fine-free}
+use Rattle.take.proofs.take_first.Statement.{statement}
+use Rattle.take.proofs.take_first.Tie as tie
+
+bad-free-requires : tie.Need-bad-free-requires
+bad-free-requires c κs = search needs
+
+returns : tie.Need-returns
+unfolding takeFirst
+returns c = pick-yes _ _ _ _ (sym (c .if1 .taken) ∙ c .before .bad-free .ensures) refl
+
+returns-2 : tie.Need-returns-2
+unfolding takeFirst
+returns-2 c = pick-no _ _ _ _ (sym (c .before .if1 .left) ∙ c .before .before .bad-free .ensures) (search (tests, needs) depth 12)
+
+edge-requires : tie.Need-edge-requires
+edge-requires c κs = let h = fine-free _ _ _ (sym (c .before .before .before .if1 .left) ∙ c .before .before .before .before .bad-free .ensures) in omega arith
+
+take-next-requires : tie.Need-take-next-requires
+take-next-requires c κs = let h = fine-free _ _ _ (sym (c .before .before .before .before .before .before .before .if1 .left) ∙ c .before .before .before .before .before .before .before .before .bad-free .ensures) in omega arith
+
+same-length : tie.Need-same-length
+same-length c = search needs
+
+same-length-2 : tie.Need-same-length-2
+same-length-2 c = search needs
+
+same-length-3 : tie.Need-same-length-3
+same-length-3 c = search needs
+
+returns-3 : tie.Need-returns-3
+unfolding takeFirst
+returns-3 c = pick-no _ _ _ _ (sym (c .before .before .before .before .before .before .before .before .before .before .before .before .before .before .if1 .left) ∙ c .before .before .before .before .before .before .before .before .before .before .before .before .before .before .before .bad-free .ensures) (pick-no _ _ _ _ (eq-no _ _ (c .before .before .before .before .before .before .before .before .before .before .before .before .before .if2 .left)) (rw (← c .before .before .before .before .before .before .before .before .before .before .edge .ensures) (c .before .before .before .before .before .before .take-next .ensures)))
+
+pub take-first-spec : {M : Type 1} → statement M
+take-first-spec =
+    tie.close
+    (tie.spec
+    bad-free-requires
+    returns
+    returns-2
+    edge-requires
+    take-next-requires
+    same-length
+    same-length-2
+    same-length-3
+    returns-3)

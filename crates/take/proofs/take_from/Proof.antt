@@ -1,0 +1,76 @@
+use Prim.Native.Nat.{_-_}
+use native.Mathlib.Omega.{arith}
+use borrow.Author.Needs.{needs}
+use Rattle.rules.proofs.Walks.{at-below}
+use Rattle.places.proofs.Arrivals.{departs, absent, halts}
+use Rattle.take.proofs.take_from.Statement.{statement}
+use Rattle.take.proofs.take_from.Tie as tie
+
+walk-requires : tie.Need-walk-requires
+walk-requires c κs = search needs
+
+enum-known-from : tie.Need-enum-known-from
+enum-known-from c = search needs
+
+enum-told : tie.Need-enum-told
+enum-told c = search needs
+
+stood-requires : tie.Need-stood-requires
+stood-requires c κs = search needs
+
+same-length : tie.Need-same-length
+same-length c = search needs
+
+same-length-2 : tie.Need-same-length-2
+same-length-2 c = search needs
+
+returns : tie.Need-returns
+returns c = halts _ _ _ _ _ _ (c .before .before .before .walk .ensures) (c .before .enum-told .given .1) (c .stood .ensures)
+
+same-length-3 : tie.Need-same-length-3
+same-length-3 c = search needs
+
+same-length-4 : tie.Need-same-length-4
+same-length-4 c = search needs
+
+returns-2 : tie.Need-returns-2
+returns-2 c = absent _ _ _ _ _ (c .before .before .before .before .walk .ensures) (c .before .before .from .given .1) (c .if1 .taken)
+
+edge-requires : tie.Need-edge-requires
+edge-requires c κs = search needs
+
+take-first-requires : tie.Need-take-first-requires
+take-first-requires c κs = let n = at-below _ _ _ _ _ _ _ (c .before .before .before .before .before .before .before .before .before .before .walk .ensures) (c .before .before .before .before .before .before .before .before .from .given .1) (omega (arith, c .before .before .before .before .before .before .before .before .before .before .before .before .before .before .before .before .pre)) in omega (arith, c .before .before .before .before .before .before .before .before .before .before .before .before .before .before .before .before .pre)
+
+same-length-5 : tie.Need-same-length-5
+same-length-5 c = search needs
+
+same-length-6 : tie.Need-same-length-6
+same-length-6 c = search needs
+
+same-length-7 : tie.Need-same-length-7
+same-length-7 c = search needs
+
+returns-3 : tie.Need-returns-3
+returns-3 c = departs _ _ _ _ _ _ (c .before .before .before .before .before .before .before .before .before .before .before .before .before .before .before .before .before .walk .ensures) (c .before .before .before .before .before .before .before .before .before .before .before .before .before .before .before .from .given .1) (c .before .before .before .before .before .before .before .before .before .before .before .before .before .if1 .left) (rw (← c .before .before .before .before .before .before .before .before .before .before .edge .ensures) (c .before .before .before .before .before .before .take-first .ensures))
+
+pub take-from-spec : {M : Type 1} → statement M
+take-from-spec =
+    tie.close
+    (tie.spec
+    walk-requires
+    enum-known-from
+    enum-told
+    stood-requires
+    same-length
+    same-length-2
+    returns
+    same-length-3
+    same-length-4
+    returns-2
+    edge-requires
+    take-first-requires
+    same-length-5
+    same-length-6
+    same-length-7
+    returns-3)

@@ -1,0 +1,92 @@
+use Prim.Native.Nat.{_-_}
+use mathlib.Core.Path.{refl, sym, _∙_}
+use native.Mathlib.Omega.{arith}
+use borrow.Author.Needs.{needs}
+use Rattle.base.proofs.Tests.{tests, pick-yes, pick-no, eq-yes, lt-no, eq-no}
+use Rattle.rules.specs.Editor.{relink, takeNext}
+use Rattle.rules.proofs.Laws.{fine-free}
+use Rattle.places.proofs.Arrivals.{leaves, leaves-shaded}
+use Rattle.take.proofs.take_next.Statement.{statement}
+use Rattle.take.proofs.take_next.Tie as tie
+
+bad-free-requires : tie.Need-bad-free-requires
+bad-free-requires c κs = search needs
+
+returns : tie.Need-returns
+unfolding takeNext
+returns c = pick-yes _ _ _ _ (sym (c .if1 .taken) ∙ c .before .bad-free .ensures) refl
+
+slice-read-if2 : tie.Need-slice-read-if2
+slice-read-if2 c = omega arith
+
+returns-2 : tie.Need-returns-2
+unfolding takeNext
+returns-2 c = pick-no _ _ _ _ (sym (c .before .before .if1 .left) ∙ c .before .before .before .bad-free .ensures) (search (tests, needs) depth 12)
+
+relink-requires : tie.Need-relink-requires
+relink-requires c κs = omega arith
+
+with-last-requires : tie.Need-with-last-requires
+with-last-requires c κs = search needs
+
+same-length : tie.Need-same-length
+same-length c = search needs
+
+same-length-2 : tie.Need-same-length-2
+same-length-2 c = search needs
+
+same-length-3 : tie.Need-same-length-3
+same-length-3 c = search needs
+
+returns-3 : tie.Need-returns-3
+unfolding takeNext
+returns-3 c = pick-no _ _ _ _ (sym (c .before .before .before .before .before .before .before .before .before .before .before .before .before .before .if1 .left) ∙ c .before .before .before .before .before .before .before .before .before .before .before .before .before .before .before .bad-free .ensures) (pick-no _ _ _ _ (lt-no _ _ (c .before .before .before .before .before .before .before .before .before .before .before .before .if2 .left)) (pick-yes _ _ _ _ (eq-yes _ _ (c .before .before .before .before .before .before .before .before .before .before .before .if3 .taken)) (leaves _ (c .before .before .before .before .before .before .before .before .before .before .before .before .before .before .before .before .before .before .before .args .x) _ _ _ _ _ _ (c .before .before .before .before .before .before .before .relink .ensures (c .before .before .before .before .before .before .before .before .before .before .before .before .before .before .before .before .before .before .before .args .x)) (c .with-last .ensures))))
+
+slice-read-if4 : tie.Need-slice-read-if4
+slice-read-if4 c = let h = fine-free _ _ _ (sym (c .before .before .before .before .if1 .left) ∙ c .before .before .before .before .before .bad-free .ensures) in omega arith
+
+returns-4 : tie.Need-returns-4
+unfolding takeNext
+returns-4 c = pick-no _ _ _ _ (sym (c .before .before .before .before .before .if1 .left) ∙ c .before .before .before .before .before .before .bad-free .ensures) (search (tests, needs) depth 12)
+
+relink-requires-2 : tie.Need-relink-requires-2
+relink-requires-2 c κs = omega arith
+
+shade-node-requires : tie.Need-shade-node-requires
+shade-node-requires c κs = let h = fine-free _ _ _ (sym (c .before .before .before .before .before .before .before .before .before .before .before .before .before .before .before .before .if1 .left) ∙ c .before .before .before .before .before .before .before .before .before .before .before .before .before .before .before .before .before .bad-free .ensures) in omega arith
+
+same-length-4 : tie.Need-same-length-4
+same-length-4 c = search needs
+
+same-length-5 : tie.Need-same-length-5
+same-length-5 c = search needs
+
+same-length-6 : tie.Need-same-length-6
+same-length-6 c = search needs
+
+returns-5 : tie.Need-returns-5
+unfolding takeNext
+returns-5 c = pick-no _ _ _ _ (sym (c .before .before .before .before .before .before .before .before .before .before .before .before .before .before .before .before .before .before .before .if1 .left) ∙ c .before .before .before .before .before .before .before .before .before .before .before .before .before .before .before .before .before .before .before .before .bad-free .ensures) (pick-no _ _ _ _ (lt-no _ _ (c .before .before .before .before .before .before .before .before .before .before .before .before .before .before .before .before .before .if2 .left)) (pick-no _ _ _ _ (eq-no _ _ (c .before .before .before .before .before .before .before .before .before .before .before .before .before .before .before .before .if3 .left)) (pick-no _ _ _ _ (lt-no _ _ (c .before .before .before .before .before .before .before .before .before .before .before .before .before .before .if4 .left)) (leaves-shaded _ (c .before .before .before .before .before .before .before .before .before .before .before .before .before .before .before .before .before .before .before .before .before .before .before .before .args .x) _ _ _ _ _ _ _ (c .before .before .before .before .before .before .before .before .before .before .relink2 .ensures (c .before .before .before .before .before .before .before .before .before .before .before .before .before .before .before .before .before .before .before .before .before .before .before .before .args .x)) (c .before .before .shade-node .ensures)))))
+
+pub take-next-spec : {M : Type 1} → statement M
+take-next-spec =
+    tie.close
+    (tie.spec
+    bad-free-requires
+    returns
+    slice-read-if2
+    returns-2
+    relink-requires
+    with-last-requires
+    same-length
+    same-length-2
+    same-length-3
+    returns-3
+    slice-read-if4
+    returns-4
+    relink-requires-2
+    shade-node-requires
+    same-length-4
+    same-length-5
+    same-length-6
+    returns-5)

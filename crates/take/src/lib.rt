@@ -1,0 +1,187 @@
+// Take, over three lent slices and a record that goes by value.
+use rules::Answer;
+use rules::Made;
+use rules::Place;
+use rules::Record;
+use rules::Walk;
+ghost use mathlib.Core.Path.{_≡_};
+ghost use Prim.Native.Nat.{_+_, _<_, _≤_};
+ghost use lib.ListN.{length};
+ghost use Rattle.rules.specs.Table.{state, outcome, edgeOf};
+ghost use Rattle.rules.specs.Editor.{depart, badFree, relink, takeNext, takeFirst};
+ghost use Rattle.rules.specs.Steps.{step, taking};
+ghost use Rattle.rules.specs.Facts.{Good};
+ghost use Rattle.rules.specs.declared.Record.{Record};
+ghost use Rattle.take.specs.Codes.{takeCode};
+
+fn take_code(lefts: usize, rights: usize, colours: usize, x: Record, p: Place, side: u32) -> u8
+    ensures { λ c. ⌜ c ≡ takeCode lefts rights colours x p side ⌝ }
+{
+    let checked = rules::check(lefts, rights, colours, x);
+    if checked != 0 {
+        return checked;
+    }
+    let sided = places::side_code(side);
+    if sided != 0 {
+        return sided;
+    }
+    let from = places::place_code(x.r, p);
+    if from != 0 {
+        return from;
+    }
+    let owed = x.owed;
+    places::owed_code(owed)
+}
+
+// Whether an edge of the free chain is bad: to a root other than NIL, or at least M.
+fn bad_free(m: u16, r: u16, e: u16) -> bool
+    requires { ⌜ r ≤ 64 ⌝ }
+    ensures { λ b. ⌜ b ≡ badFree m r e ⌝ }
+{
+    if m <= e {
+        return true;
+    }
+    if e < 1 {
+        return false;
+    }
+    e <= r + 1
+}
+
+// The edge points to f, FREE's left edge to g, f's left edge to NIL; f is shaded.
+fn relink(left: &mut [u16], right: &mut [u16], colour: &mut [u8], n: u16, side: u32, f: u16, g: u16)
+    requires { ⌜ (1 < length (now left)) × ((1 < length (now right)) × ((n < length (now left)) × ((n < length (now right)) × ((f < length (now left)) × ((f < length (now right)) × (f < length (now colour))))))) ⌝ }
+    ensures { λ _. ⌜ ((x : Record) → state (now (left .exit)) (now (right .exit)) (now (colour .exit)) x ≡ relink (state (now (left .entry)) (now (right .entry)) (now (colour .entry)) x) n side f g) ⌝ }
+{
+    table::set_edge(left, right, side, n, f);
+    table::set_edge(left, right, 0, 1, g);
+    table::set_edge(left, right, 0, f, 0);
+    table::shade_node(colour, f);
+}
+
+// Take of f, whose successor is g.
+fn take_next(
+    left: &mut [u16],
+    right: &mut [u16],
+    colour: &mut [u8],
+    x: Record,
+    n: u16,
+    side: u32,
+    f: u16,
+    g: u16,
+) -> Made
+    requires { ⌜ (Good (length (now left)) (length (now right)) (length (now colour)) x) × ((n < x .m) × (f < x .m)) ⌝ }
+    ensures { λ r. ⌜ outcome r (now (left .exit)) (now (right .exit)) (now (colour .exit)) ≡ takeNext (state (now (left .entry)) (now (right .entry)) (now (colour .entry)) x) n side f g ⌝ }
+{
+    if bad_free(x.m, x.r, g) {
+        return Made {
+            answer: Answer::Refused(7, f),
+            rec: x,
+        };
+    }
+    let first = f as usize;
+    if 2 < colour[first] {
+        return Made {
+            answer: Answer::Refused(7, f),
+            rec: x,
+        };
+    }
+    if g == 0 {
+        relink(left, right, colour, n, side, f, g);
+        return Made {
+            answer: Answer::Taken(f),
+            rec: x.with_last(1),
+        };
+    }
+    let next = g as usize;
+    if 2 < colour[next] {
+        return Made {
+            answer: Answer::Refused(7, g),
+            rec: x,
+        };
+    }
+    relink(left, right, colour, n, side, f, g);
+    table::shade_node(colour, g);
+    Made {
+        answer: Answer::Taken(f),
+        rec: x,
+    }
+}
+
+// Take of f, FREE's left edge, for the source n.
+fn take_first(
+    left: &mut [u16],
+    right: &mut [u16],
+    colour: &mut [u8],
+    x: Record,
+    side: u32,
+    f: u16,
+    n: u16,
+) -> Made
+    requires { ⌜ (Good (length (now left)) (length (now right)) (length (now colour)) x) × (n < x .m) ⌝ }
+    ensures { λ r. ⌜ outcome r (now (left .exit)) (now (right .exit)) (now (colour .exit)) ≡ takeFirst (state (now (left .entry)) (now (right .entry)) (now (colour .entry)) x) side f n ⌝ }
+{
+    if bad_free(x.m, x.r, f) {
+        return Made {
+            answer: Answer::Refused(7, 1),
+            rec: x,
+        };
+    }
+    if f == 0 {
+        return Made {
+            answer: Answer::Refused(9, 0),
+            rec: x,
+        };
+    }
+    let g = table::edge(left, right, 0, f);
+    take_next(left, right, colour, x, n, side, f, g)
+}
+
+// Take, from its source place.
+fn take_from(
+    left: &mut [u16],
+    right: &mut [u16],
+    colour: &mut [u8],
+    x: Record,
+    p: Place,
+    side: u32,
+) -> Made
+    requires { ⌜ (Good (length (now left)) (length (now right)) (length (now colour)) x) × (p .slot < x .r) ⌝ }
+    ensures { λ r. ⌜ outcome r (now (left .exit)) (now (right .exit)) (now (colour .exit)) ≡ depart (state (now (left .entry)) (now (right .entry)) (now (colour .entry)) x) p (takeFirst (state (now (left .entry)) (now (right .entry)) (now (colour .entry)) x) side (edgeOf (now (left .entry)) (now (right .entry)) 0 1)) ⌝ }
+{
+    let from = places::walk(left, right, x.m, p);
+    let Walk::At(n) = from else {
+        return Made {
+            answer: Answer::Refused(7, places::stood(from)),
+            rec: x,
+        };
+    };
+    if n == 0 {
+        return Made {
+            answer: Answer::Refused(8, 0),
+            rec: x,
+        };
+    }
+    let f = table::edge(left, right, 0, 1);
+    take_first(left, right, colour, x, side, f, n)
+}
+
+// The edge of the source on a side now points to the first free node, which leaves the free list.
+pub fn take(
+    left: &mut [u16],
+    right: &mut [u16],
+    colour: &mut [u8],
+    x: Record,
+    p: Place,
+    side: u32,
+) -> Made
+    ensures { λ r. ⌜ outcome r (now (left .exit)) (now (right .exit)) (now (colour .exit)) ≡ step (taking p side) (state (now (left .entry)) (now (right .entry)) (now (colour .entry)) x) ⌝ }
+{
+    let code = take_code(left.len(), right.len(), colour.len(), x, p, side);
+    if code != 0 {
+        return Made {
+            answer: Answer::Refused(code, 0),
+            rec: x,
+        };
+    }
+    take_from(left, right, colour, x, p, side)
+}
