@@ -1,6 +1,8 @@
 -- What a call does for a caller that keeps the record as words.
 use Rattle.base.specs.Choice.{pick}
 use Prim.Native.Nat.{ℕ}
+use mathlib.Core.Bool.{true}
+use mathlib.Core.Path.{_≡_}
 use mathlib.Core.List.{List}
 use Rattle.rules.specs.Table.{State, Outcome, state}
 use Rattle.rules.specs.Steps.{codeOf, nodeOf}
@@ -47,6 +49,10 @@ noRecord = record { what = 0; code = 2; node = 0 }
 -- the call f, where the words are a record's; else nothing changes
 unfoldable pub face : (State → Outcome) → List ℕ → List ℕ → List ℕ → List ℕ → Faced
 face f l r c w = pick (isRecord w) (shown (f (state l r c (recordOf w)))) (faced noRecord l r c w)
+
+-- words that are a record's stay a record's
+abbrev pub Stays : List ℕ → List ℕ → Type 0
+Stays w v = true ≡ isRecord w → true ≡ isRecord v
 
 -- a place as a caller gives it
 abbrev pub placeOf : ℕ → ℕ → ℕ → Place

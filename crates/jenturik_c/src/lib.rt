@@ -7,11 +7,13 @@ use rules::Step;
 ghost use mathlib.Core.Path.{_≡_};
 ghost use Prim.Native.Nat.{_+_, _*_, _/_, _≤_};
 ghost use lib.ListN.{length};
+ghost use mathlib.Core.Bool.{true};
 ghost use Rattle.rules.specs.Table.{state};
 ghost use Rattle.rules.specs.Fresh.{fresh};
 ghost use Rattle.rules.specs.Steps.{step, taking, linking, shading, collecting, looking};
 ghost use Rattle.rules.specs.Schedules.{ran, schedule, collects};
-ghost use Rattle.jenturik_c.specs.Face.{whatOf, toldOf, noRecord, shown, faced, face, placeOf};
+ghost use Rattle.words.specs.Words.{isRecord};
+ghost use Rattle.jenturik_c.specs.Face.{whatOf, toldOf, noRecord, shown, faced, face, Stays, placeOf};
 ghost use Rattle.jenturik_c.specs.Flat.{stepAt, stepsOf, scheduleOf};
 ghost use Rattle.jenturik_c.specs.Runs.{facedRun, faceRun, lastOf, lastTold};
 
@@ -87,7 +89,7 @@ pub extern "C" fn jenturik_fresh(
     nodes: u32,
     slots: u32,
 ) -> Told
-    ensures { λ t. ⌜ faced t (now (left .exit)) (now (right .exit)) (now (colour .exit)) (now (words .exit)) ≡ shown (fresh nodes slots (now (left .entry)) (now (right .entry)) (now (colour .entry))) ⌝ }
+    ensures { λ t. ⌜ (faced t (now (left .exit)) (now (right .exit)) (now (colour .exit)) (now (words .exit)) ≡ shown (fresh nodes slots (now (left .entry)) (now (right .entry)) (now (colour .entry)))) × (true ≡ isRecord (now (words .exit))) ⌝ }
 {
     let made = fresh::fresh(left, right, colour, nodes as usize, slots as usize);
     let rec = made.rec;
@@ -135,7 +137,7 @@ pub extern "C" fn jenturik_link(
     tocount: u32,
     toword: u32,
 ) -> Told
-    ensures { λ t. ⌜ faced t (now (left .exit)) (now (right .exit)) (now (colour .entry)) (now (words .exit)) ≡ face (step (linking (placeOf slot count word) side (placeOf toslot tocount toword))) (now (left .entry)) (now (right .entry)) (now (colour .entry)) (now (words .entry)) ⌝ }
+    ensures { λ t. ⌜ (faced t (now (left .exit)) (now (right .exit)) (now (colour .entry)) (now (words .exit)) ≡ face (step (linking (placeOf slot count word) side (placeOf toslot tocount toword))) (now (left .entry)) (now (right .entry)) (now (colour .entry)) (now (words .entry))) × Stays (now (words .entry)) (now (words .exit)) ⌝ }
 {
     let w = *words;
     if !words::is_record(w) {
@@ -163,7 +165,7 @@ pub extern "C" fn jenturik_shade(
     colour: &mut [u8],
     words: &mut [u32; 16],
 ) -> Told
-    ensures { λ t. ⌜ faced t (now (left .entry)) (now (right .entry)) (now (colour .exit)) (now (words .exit)) ≡ face (step shading) (now (left .entry)) (now (right .entry)) (now (colour .entry)) (now (words .entry)) ⌝ }
+    ensures { λ t. ⌜ (faced t (now (left .entry)) (now (right .entry)) (now (colour .exit)) (now (words .exit)) ≡ face (step shading) (now (left .entry)) (now (right .entry)) (now (colour .entry)) (now (words .entry))) × Stays (now (words .entry)) (now (words .exit)) ⌝ }
 {
     let w = *words;
     if !words::is_record(w) {
@@ -189,7 +191,7 @@ pub extern "C" fn jenturik_take(
     word: u32,
     side: u32,
 ) -> Told
-    ensures { λ t. ⌜ faced t (now (left .exit)) (now (right .exit)) (now (colour .exit)) (now (words .exit)) ≡ face (step (taking (placeOf slot count word) side)) (now (left .entry)) (now (right .entry)) (now (colour .entry)) (now (words .entry)) ⌝ }
+    ensures { λ t. ⌜ (faced t (now (left .exit)) (now (right .exit)) (now (colour .exit)) (now (words .exit)) ≡ face (step (taking (placeOf slot count word) side)) (now (left .entry)) (now (right .entry)) (now (colour .entry)) (now (words .entry))) × Stays (now (words .entry)) (now (words .exit)) ⌝ }
 {
     let w = *words;
     if !words::is_record(w) {
@@ -212,7 +214,7 @@ pub extern "C" fn jenturik_collect(
     colour: &mut [u8],
     words: &mut [u32; 16],
 ) -> Told
-    ensures { λ t. ⌜ faced t (now (left .exit)) (now (right .exit)) (now (colour .exit)) (now (words .exit)) ≡ face (step collecting) (now (left .entry)) (now (right .entry)) (now (colour .entry)) (now (words .entry)) ⌝ }
+    ensures { λ t. ⌜ (faced t (now (left .exit)) (now (right .exit)) (now (colour .exit)) (now (words .exit)) ≡ face (step collecting) (now (left .entry)) (now (right .entry)) (now (colour .entry)) (now (words .entry))) × Stays (now (words .entry)) (now (words .exit)) ⌝ }
 {
     let w = *words;
     if !words::is_record(w) {
@@ -235,7 +237,7 @@ pub extern "C" fn jenturik_collect_many(
     words: &mut [u32; 16],
     n: usize,
 ) -> Last
-    ensures { λ r. ⌜ (facedRun (r .done) (r .code) (now (left .exit)) (now (right .exit)) (now (colour .exit)) (now (words .exit)) ≡ faceRun (schedule (collects n)) (now (left .entry)) (now (right .entry)) (now (colour .entry)) (now (words .entry))) × (lastOf r ≡ lastTold n (now (left .entry)) (now (right .entry)) (now (colour .entry)) (now (words .entry))) ⌝ }
+    ensures { λ r. ⌜ (facedRun (r .done) (r .code) (now (left .exit)) (now (right .exit)) (now (colour .exit)) (now (words .exit)) ≡ faceRun (schedule (collects n)) (now (left .entry)) (now (right .entry)) (now (colour .entry)) (now (words .entry))) × (lastOf r ≡ lastTold n (now (left .entry)) (now (right .entry)) (now (colour .entry)) (now (words .entry))) × Stays (now (words .entry)) (now (words .exit)) ⌝ }
 {
     let w = *words;
     if !words::is_record(w) {
@@ -322,7 +324,7 @@ pub extern "C" fn jenturik_schedule(
     words: &mut [u32; 16],
     steps: &[u32],
 ) -> Done
-    ensures { λ r. ⌜ facedRun (r .done) (r .code) (now (left .exit)) (now (right .exit)) (now (colour .exit)) (now (words .exit)) ≡ faceRun (scheduleOf (now (steps .entry))) (now (left .entry)) (now (right .entry)) (now (colour .entry)) (now (words .entry)) ⌝ }
+    ensures { λ r. ⌜ (facedRun (r .done) (r .code) (now (left .exit)) (now (right .exit)) (now (colour .exit)) (now (words .exit)) ≡ faceRun (scheduleOf (now (steps .entry))) (now (left .entry)) (now (right .entry)) (now (colour .entry)) (now (words .entry))) × Stays (now (words .entry)) (now (words .exit)) ⌝ }
 {
     let w = *words;
     if !words::is_record(w) {

@@ -2,12 +2,17 @@
 use Prim.Native.Nat.{ℕ, _≤_}
 use mathlib.Core.Bool.{Bool, true, false}
 use mathlib.Core.List.{List}
-use mathlib.Core.Path.{_≡_, sym}
+use mathlib.Core.Path.{_≡_, refl, sym, subst}
 use lib.Dec.{eqb}
 use borrow.Author.Tests.{leb-true}
 use Rattle.base.specs.Choice.{pick}
-use Rattle.base.proofs.Tests.{each, facts}
-use Rattle.words.specs.Words.{word, small, phaseWords, owedWords, nodeWords, isRecord}
+use Rattle.base.proofs.Tests.{each, facts, tests, every-skip, every-last}
+use Rattle.rules.specs.declared.Record.{Record}
+use Rattle.rules.specs.declared.Phase.{Phase}
+use Rattle.rules.specs.declared.Phase.the-variants.{Roots, Scan, Left, Right, Black, Append}
+use Rattle.rules.specs.declared.Owed.{Owed}
+use Rattle.rules.specs.declared.Owed.the-variants.{Nothing, Node}
+use Rattle.words.specs.Words.{word, small, tagOf, iOf, kOf, owesOf, owedOf, wordsOf, phaseWords, owedWords, unusedWords, nodeWords, isRecord}
 
 -- the word is small whichever way it is judged
 either : (b : Bool) (n : ℕ) → pick b (small n) (eqb n 0) ≡ true → n ≤ 65535
@@ -35,3 +40,27 @@ widths w e =
     let n = either (eqb (word w 5) 1) (word w 6) (o .1 .0) in
     let s = each _ (sym (t .1 .1 .1 .1 .0)) in
     omega facts
+
+-- and the other way round: a record whose numbers have their widths has a record's words
+phase-small : (p : Phase) → iOf p ≤ 65535 → kOf p ≤ 65535 → true ≡ phaseWords (tagOf p) (iOf p) (kOf p)
+unfolding phaseWords
+phase-small (Roots i) a b = search tests depth 12
+phase-small (Scan i k) a b = search tests depth 12
+phase-small (Left i) a b = search tests depth 12
+phase-small (Right i) a b = search tests depth 12
+phase-small (Black i) a b = search tests depth 12
+phase-small (Append i) a b = search tests depth 12
+
+owed-small : (o : Owed) → owedOf o ≤ 65535 → true ≡ owedWords (owesOf o) (owedOf o)
+unfolding owedWords
+owed-small Nothing a = search tests depth 12
+owed-small (Node n) a = search tests depth 12
+
+pub words-are : (x : Record) (w : List ℕ) → w ≡ wordsOf x → x .m ≤ 65535 → x .r ≤ 65535 → iOf (x .phase) ≤ 65535 → kOf (x .phase) ≤ 65535 → owedOf (x .owed) ≤ 65535
+    → x .last ≤ 65535 → x .blackened ≤ 65535 → x .inuse ≤ 65535 → (w ≡ wordsOf x) × (true ≡ isRecord w)
+unfolding isRecord unusedWords nodeWords
+words-are x w q a b c d e f g h =
+    let p = phase-small (x .phase) c d in
+    let o = owed-small (x .owed) e in
+    let all : true ≡ isRecord (wordsOf x) = search (tests, p, o) depth 20 in
+    (q, subst (λ (v : List ℕ). true ≡ isRecord v) (sym q) all)

@@ -65,7 +65,7 @@ fn owed(o: Owed) -> u16
 
 // The record's words.
 pub fn words_of(x: Record) -> [u32; 16]
-    ensures { λ w. ⌜ w ≡ wordsOf x ⌝ }
+    ensures { λ w. ⌜ (w ≡ wordsOf x) × (true ≡ isRecord w) ⌝ }
 {
     let p = x.phase;
     let o = x.owed;

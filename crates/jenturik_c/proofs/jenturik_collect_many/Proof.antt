@@ -9,7 +9,7 @@ is-record-requires : tie.Need-is-record-requires
 is-record-requires c κs = search needs
 
 returns : tie.Need-returns
-returns c = (spurned-run _ _ _ _ (not-yes _ (c .if1 .taken) ∙ c .before .is-record .ensures) _, spurned-last _ _ _ _ (not-yes _ (c .if1 .taken) ∙ c .before .is-record .ensures) _)
+returns c = (spurned-run _ _ _ _ (not-yes _ (c .if1 .taken) ∙ c .before .is-record .ensures) _, spurned-last _ _ _ _ (not-yes _ (c .if1 .taken) ∙ c .before .is-record .ensures) _, λ h. h)
 
 record-of-requires : tie.Need-record-of-requires
 record-of-requires c κs = (not-no _ (c .before .before .before .if1 .left) ∙ c .before .before .before .before .is-record .ensures)
@@ -45,7 +45,7 @@ same-length-3 : tie.Need-same-length-3
 same-length-3 c = search needs
 
 returns-2 : tie.Need-returns-2
-returns-2 c = (rw (c .before .code .ensures) (faces-run _ _ _ _ _ _ _ _ _ (not-no _ (c .before .before .before .before .before .before .before .before .before .before .before .before .before .before .before .before .if1 .left) ∙ c .before .before .before .before .before .before .before .before .before .before .before .before .before .before .before .before .before .is-record .ensures) (c .before .before .before .before .before .before .before .before .before .before .before .before .record-of .ensures) _ _ _ _ (c .before .before .before .before .before .before .before .before .before .before .before .collect-many .ensures .0) (c .before .before .before .words-of .ensures)), faces-last _ _ _ _ _ _ _ _ (not-no _ (c .before .before .before .before .before .before .before .before .before .before .before .before .before .before .before .before .if1 .left) ∙ c .before .before .before .before .before .before .before .before .before .before .before .before .before .before .before .before .before .is-record .ensures) (c .before .before .before .before .before .before .before .before .before .before .before .before .record-of .ensures) (c .before .before .before .before .before .before .before .before .before .before .before .collect-many .ensures .1) (rw (c .before .before .what .ensures, c .before .code .ensures, c .node .ensures)))
+returns-2 c = (rw (c .before .code .ensures) (faces-run _ _ _ _ _ _ _ _ _ (not-no _ (c .before .before .before .before .before .before .before .before .before .before .before .before .before .before .before .before .if1 .left) ∙ c .before .before .before .before .before .before .before .before .before .before .before .before .before .before .before .before .before .is-record .ensures) (c .before .before .before .before .before .before .before .before .before .before .before .before .record-of .ensures) _ _ _ _ (c .before .before .before .before .before .before .before .before .before .before .before .collect-many .ensures .0) (c .before .before .before .words-of .ensures .0)), faces-last _ _ _ _ _ _ _ _ (not-no _ (c .before .before .before .before .before .before .before .before .before .before .before .before .before .before .before .before .if1 .left) ∙ c .before .before .before .before .before .before .before .before .before .before .before .before .before .before .before .before .before .is-record .ensures) (c .before .before .before .before .before .before .before .before .before .before .before .before .record-of .ensures) (c .before .before .before .before .before .before .before .before .before .before .before .collect-many .ensures .1) (rw (c .before .before .what .ensures, c .before .code .ensures, c .node .ensures)), λ h. c .before .before .before .words-of .ensures .1)
 
 pub jenturik-collect-many-spec : {M : Type 1} → statement M
 jenturik-collect-many-spec =

@@ -22,7 +22,7 @@ same-length-3 : tie.Need-same-length-3
 same-length-3 c = search needs
 
 returns : tie.Need-returns
-returns c = shows _ _ _ _ _ _ _ (c .before .before .before .before .before .before .before .before .before .fresh .ensures) (c .before .words-of .ensures) (c .tell .ensures)
+returns c = (shows _ _ _ _ _ _ _ (c .before .before .before .before .before .before .before .before .before .fresh .ensures) (c .before .words-of .ensures .0) (c .tell .ensures), c .before .words-of .ensures .1)
 
 pub jenturik-fresh-spec : {M : Type 1} → statement M
 jenturik-fresh-spec =

@@ -3,30 +3,23 @@ use Rattle.base.proofs.Tests.{tests}
 use Rattle.words.specs.Words.{nodeWords}
 use Rattle.words.proofs.node_words.Statement.{statement}
 use Rattle.words.proofs.node_words.Tie as tie
-use Rattle.words.proofs.node_words.Reads as reads
-use Rattle.words.proofs.node_words.Lts as lts
 
--- src/lib.rt:135:9
 returns : tie.Need-returns
 unfolding nodeWords
 returns c = search (tests, needs) depth 12
 
--- src/lib.rt:138:9
 returns-2 : tie.Need-returns-2
 unfolding nodeWords
 returns-2 c = search (tests, needs) depth 12
 
--- src/lib.rt:141:9
 returns-3 : tie.Need-returns-3
 unfolding nodeWords
 returns-3 c = search (tests, needs) depth 12
 
--- src/lib.rt:144:9
 returns-4 : tie.Need-returns-4
 unfolding nodeWords
 returns-4 c = search (tests, needs) depth 12
 
--- src/lib.rt:131:1
 returns-5 : tie.Need-returns-5
 unfolding nodeWords
 returns-5 c = search (tests, needs) depth 12

@@ -3,20 +3,15 @@ use Rattle.base.proofs.Tests.{tests}
 use Rattle.words.specs.Words.{owedWords}
 use Rattle.words.proofs.owed_words.Statement.{statement}
 use Rattle.words.proofs.owed_words.Tie as tie
-use Rattle.words.proofs.owed_words.Reads as reads
-use Rattle.words.proofs.owed_words.Lts as lts
 
--- src/lib.rt:111:9
 returns : tie.Need-returns
 unfolding owedWords
 returns c = search (tests, needs) depth 12
 
--- src/lib.rt:114:9
 returns-2 : tie.Need-returns-2
 unfolding owedWords
 returns-2 c = search (tests, needs) depth 12
 
--- src/lib.rt:107:1
 returns-3 : tie.Need-returns-3
 unfolding owedWords
 returns-3 c = search (tests, needs) depth 12

@@ -3,25 +3,19 @@ use Rattle.base.proofs.Tests.{tests}
 use Rattle.words.specs.Words.{phaseWords}
 use Rattle.words.proofs.phase_words.Statement.{statement}
 use Rattle.words.proofs.phase_words.Tie as tie
-use Rattle.words.proofs.phase_words.Reads as reads
-use Rattle.words.proofs.phase_words.Lts as lts
 
--- src/lib.rt:96:9
 returns : tie.Need-returns
 unfolding phaseWords
 returns c = search (tests, needs) depth 12
 
--- src/lib.rt:99:9
 returns-2 : tie.Need-returns-2
 unfolding phaseWords
 returns-2 c = search (tests, needs) depth 12
 
--- src/lib.rt:102:9
 returns-3 : tie.Need-returns-3
 unfolding phaseWords
 returns-3 c = search (tests, needs) depth 12
 
--- src/lib.rt:92:1
 returns-4 : tie.Need-returns-4
 unfolding phaseWords
 returns-4 c = search (tests, needs) depth 12

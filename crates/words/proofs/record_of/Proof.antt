@@ -4,104 +4,76 @@ use Rattle.words.specs.Words.{recordOf}
 use Rattle.words.proofs.Widths.{widths}
 use Rattle.words.proofs.record_of.Statement.{statement}
 use Rattle.words.proofs.record_of.Tie as tie
-use Rattle.words.proofs.record_of.Reads as reads
-use Rattle.words.proofs.record_of.Lts as lts
-use Rattle.words.proofs.phase_of.Reads as phase-of-reads
-use Rattle.words.proofs.shade_of.Reads as shade-of-reads
 
--- src/lib.rt:201:12
 array-read-t5 : tie.Need-array-read-t5
 array-read-t5 c = search needs
 
--- src/lib.rt:201:12
 cast-t6 : tie.Need-cast-t6
 cast-t6 c = let h = widths _ (c .pre) in omega arith
 
--- src/lib.rt:202:12
 array-read-t9 : tie.Need-array-read-t9
 array-read-t9 c = search needs
 
--- src/lib.rt:202:12
 cast-t10 : tie.Need-cast-t10
 cast-t10 c = let h = widths _ (c .pre) in omega arith
 
--- src/lib.rt:203:25
 array-read-phase-of : tie.Need-array-read-phase-of
 array-read-phase-of c = search needs
 
--- src/lib.rt:203:31
 array-read-phase-of-2 : tie.Need-array-read-phase-of-2
 array-read-phase-of-2 c = search needs
 
--- src/lib.rt:203:31
 cast-phase-of : tie.Need-cast-phase-of
 cast-phase-of c = let h = widths _ (c .pre) in omega arith
 
--- src/lib.rt:203:44
 array-read-phase-of-3 : tie.Need-array-read-phase-of-3
 array-read-phase-of-3 c = search needs
 
--- src/lib.rt:203:44
 cast-phase-of-2 : tie.Need-cast-phase-of-2
 cast-phase-of-2 c = let h = widths _ (c .pre) in omega arith
 
--- src/lib.rt:203:16
 phase-of-requires : tie.Need-phase-of-requires
 phase-of-requires c κs = search needs
 
--- src/lib.rt:204:24
 array-read-shade-of : tie.Need-array-read-shade-of
 array-read-shade-of c = search needs
 
--- src/lib.rt:204:30
 array-read-shade-of-2 : tie.Need-array-read-shade-of-2
 array-read-shade-of-2 c = search needs
 
--- src/lib.rt:204:30
 cast-shade-of : tie.Need-cast-shade-of
 cast-shade-of c = let h = widths _ (c .before .pre) in omega arith
 
--- src/lib.rt:204:15
 shade-of-requires : tie.Need-shade-of-requires
 shade-of-requires c κs = search needs
 
--- src/lib.rt:205:15
 array-read-t33 : tie.Need-array-read-t33
 array-read-t33 c = search needs
 
--- src/lib.rt:205:15
 cast-t34 : tie.Need-cast-t34
 cast-t34 c = let h = widths _ (c .before .before .pre) in omega arith
 
--- src/lib.rt:206:16
 array-read-t37 : tie.Need-array-read-t37
 array-read-t37 c = search needs
 
--- src/lib.rt:207:17
 array-read-t40 : tie.Need-array-read-t40
 array-read-t40 c = search needs
 
--- src/lib.rt:208:15
 array-read-t43 : tie.Need-array-read-t43
 array-read-t43 c = search needs
 
--- src/lib.rt:209:20
 array-read-t46 : tie.Need-array-read-t46
 array-read-t46 c = search needs
 
--- src/lib.rt:209:20
 cast-t47 : tie.Need-cast-t47
 cast-t47 c = let h = widths _ (c .before .before .pre) in omega arith
 
--- src/lib.rt:210:16
 array-read-t50 : tie.Need-array-read-t50
 array-read-t50 c = search needs
 
--- src/lib.rt:210:16
 cast-t51 : tie.Need-cast-t51
 cast-t51 c = let h = widths _ (c .before .before .pre) in omega arith
 
--- src/lib.rt:196:1
 returns : tie.Need-returns
 unfolding recordOf
 returns c = rw (← c .before .phase-of .ensures, ← c .shade-of .ensures)

@@ -3,20 +3,15 @@ use Rattle.base.proofs.Tests.{tests}
 use Rattle.words.specs.Words.{unusedWords}
 use Rattle.words.proofs.unused_words.Statement.{statement}
 use Rattle.words.proofs.unused_words.Tie as tie
-use Rattle.words.proofs.unused_words.Reads as reads
-use Rattle.words.proofs.unused_words.Lts as lts
 
--- src/lib.rt:123:9
 returns : tie.Need-returns
 unfolding unusedWords
 returns c = search (tests, needs) depth 12
 
--- src/lib.rt:126:9
 returns-2 : tie.Need-returns-2
 unfolding unusedWords
 returns-2 c = search (tests, needs) depth 12
 
--- src/lib.rt:119:1
 returns-3 : tie.Need-returns-3
 unfolding unusedWords
 returns-3 c = search (tests, needs) depth 12
