@@ -4,3 +4,4 @@ pub mod Wrong
 pub mod Covered
 pub mod Lent
 pub mod Many
+pub mod Faces
