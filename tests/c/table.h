@@ -1,0 +1,65 @@
+/* A table with its record as the tests keep it, and as it is lent to the library between fences. */
+#ifndef TABLE_H
+#define TABLE_H
+
+#include "fence.h"
+#include "jenturik.h"
+
+enum { MOST = 16384 };
+
+typedef struct {
+    uint32_t words[JENTURIK_WORDS];
+    size_t lefts, rights, colours;
+    uint16_t left[MOST], right[MOST];
+    uint8_t colour[MOST];
+} table;
+
+/* What is lent. */
+typedef struct {
+    fence lefts, rights, colours, words;
+    uint16_t *l, *r;
+    uint8_t *c;
+    uint32_t *w;
+    size_t nl, nr, nc;
+} lent;
+
+/* The three arrays and the words, in the order of every call. */
+#define LENT(t) (t)->l, (t)->nl, (t)->r, (t)->nr, (t)->c, (t)->nc, (t)->w
+
+static inline void lent_open(lent *t) {
+    fence_open(&t->lefts);
+    fence_open(&t->rights);
+    fence_open(&t->colours);
+    fence_open(&t->words);
+}
+
+static inline void lend(lent *t, const table *from, int high) {
+    t->nl = from->lefts;
+    t->nr = from->rights;
+    t->nc = from->colours;
+    t->l = fence_lay(&t->lefts, from->left, 2 * t->nl, high);
+    t->r = fence_lay(&t->rights, from->right, 2 * t->nr, high);
+    t->c = fence_lay(&t->colours, from->colour, t->nc, high);
+    t->w = fence_lay(&t->words, from->words, sizeof from->words, high);
+}
+
+/* Takes back what was lent; nothing beside it may have changed. */
+static inline void take_back(const lent *t, table *to) {
+    if (!fence_kept(&t->lefts) || !fence_kept(&t->rights) || !fence_kept(&t->colours) || !fence_kept(&t->words))
+        fence_fail("a call wrote outside its arrays");
+    to->lefts = t->nl;
+    to->rights = t->nr;
+    to->colours = t->nc;
+    memcpy(to->words, t->w, sizeof to->words);
+    if (t->nl != 0) memcpy(to->left, t->l, 2 * t->nl);
+    if (t->nr != 0) memcpy(to->right, t->r, 2 * t->nr);
+    if (t->nc != 0) memcpy(to->colour, t->c, t->nc);
+}
+
+static inline int same(const table *a, const table *b) {
+    return memcmp(a->words, b->words, sizeof a->words) == 0 && a->lefts == b->lefts && a->rights == b->rights && a->colours == b->colours &&
+           memcmp(a->left, b->left, 2 * a->lefts) == 0 && memcmp(a->right, b->right, 2 * a->rights) == 0 &&
+           memcmp(a->colour, b->colour, a->colours) == 0;
+}
+
+#endif
