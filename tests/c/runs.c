@@ -58,6 +58,44 @@ static void many_against_single(int damaged, uint32_t tables) {
     check(damaged ? refused > tables / 4 : refused == 0, "collector steps refused", damaged ? "damaged tables" : "sound tables", (long)refused);
 }
 
+/* The steps by their own calls, until one is refused; a kind above 4 has none and is refused with 10. */
+static jenturik_done by_own_calls(const uint32_t *steps, size_t count) {
+    jenturik_done d = {0, jenturik_schedule(LENT(&t), NULL, 0).code};
+    while (d.code == 0 && d.done < count) {
+        const uint32_t *s = steps + 8 * d.done;
+        d.code = jenturik_schedule(LENT(&t), NULL, 0).code;
+        if (d.code == 0) d.code = s[0] > 4 ? JENTURIK_UNREADABLE : own_call(&t, s).code;
+        d.done += d.code == 0;
+    }
+    return d;
+}
+
+/* Random schedules, of steps that may be done more often than not, with kinds and sides above the largest among them. */
+static void schedules_against_single(uint32_t tables) {
+    static const uint32_t kinds[] = {0, 1, 2, 3, 3, 3, 4, 5};
+    uint32_t steps[8 * 20], wrong = 0;
+    size_t done = 0;
+    for (uint32_t i = 0; i < tables; i++) {
+        uint32_t m = 3 + below(30), r = 1 + below(m - 2), count = below(21);
+        make_sound(&start, m, r, below(12));
+        if (i % 3 == 0) damage(m);
+        for (uint32_t j = 0; j < count; j++) {
+            const uint32_t one[] = {kinds[below(j % 5 == 4 ? 8 : 7)], below(r), below(2), 0, below(j % 7 == 6 ? 3 : 2), below(r), 1, below(2)};
+            memcpy(steps + 8 * j, one, sizeof one);
+        }
+        lend(&t, &start, 0);
+        jenturik_done a = by_own_calls(steps, count);
+        take_back(&t, &single);
+        lend(&t, &start, 1);
+        jenturik_done b = jenturik_schedule(LENT(&t), steps, 8 * count);
+        take_back(&t, &after);
+        wrong += a.done != b.done || a.code != b.code || !same(&single, &after);
+        done += b.done;
+    }
+    check(wrong == 0, "a schedule does what single steps do", "schedule", (long)wrong);
+    check(done > tables, "steps of schedules done", "schedule", (long)done);
+}
+
 /* A table of 4,096 nodes, all reachable in one chain, for two whole cycles. */
 static void large_table(void) {
     make_fresh(&start, 4096, 1);
@@ -161,6 +199,7 @@ int main(void) {
     check(sizeof(jenturik_step) == 32, "a step is eight words", "jenturik_step", (long)sizeof(jenturik_step));
     many_against_single(0, 300);
     many_against_single(1, 600);
+    schedules_against_single(3000);
     large_table();
     every_code();
     nil_owed();

@@ -86,17 +86,6 @@ static jenturik_done follow(const uint32_t *from, size_t count) {
     return d;
 }
 
-/* The step by its own call. */
-static jenturik_told own_call(const uint32_t *s) {
-    switch (s[0]) {
-    case 0: return jenturik_take(LENT(&t), s[1], s[2], s[3], s[4]);
-    case 1: return jenturik_link(LENT(&t), s[1], s[2], s[3], s[4], s[5], s[6], s[7]);
-    case 2: return jenturik_shade(LENT(&t));
-    case 3: return jenturik_collect(LENT(&t));
-    default: return jenturik_look(LENT(&t), s[1], s[2], s[3]);
-    }
-}
-
 /* What was done as the mode tells it: the collector's steps from 1 on, 0 for the editor's and for a refusal. */
 static uint32_t did(uint32_t kind, jenturik_told a) {
     static const uint32_t whats[] = {JENTURIK_TAKEN, JENTURIK_LINKED, JENTURIK_SHADED, 0, JENTURIK_NAMED};
@@ -124,7 +113,7 @@ static void state_line(void) {
     jenturik_told told = {0, d.code, 0};
     if (steps[0] <= 4) {
         lend(&t, &given, high);
-        told = own_call(steps);
+        told = own_call(&t, steps);
         take_back(&t, &again);
         if (!same(&after, &again)) fence_fail("the call and the schedule leave different states");
     }

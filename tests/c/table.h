@@ -62,4 +62,15 @@ static inline int same(const table *a, const table *b) {
            memcmp(a->colour, b->colour, a->colours) == 0;
 }
 
+/* A step of a kind up to 4 by its own call. */
+static inline jenturik_told own_call(lent *t, const uint32_t *s) {
+    switch (s[0]) {
+    case 0: return jenturik_take(LENT(t), s[1], s[2], s[3], s[4]);
+    case 1: return jenturik_link(LENT(t), s[1], s[2], s[3], s[4], s[5], s[6], s[7]);
+    case 2: return jenturik_shade(LENT(t));
+    case 3: return jenturik_collect(LENT(t));
+    default: return jenturik_look(LENT(t), s[1], s[2], s[3]);
+    }
+}
+
 #endif
