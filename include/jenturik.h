@@ -1,15 +1,33 @@
 /* Jenturik: an on-the-fly garbage collector for graphs of nodes with two edges each, one step a call.
  *
+ * `rt staticlib jenturik_c` makes target/staticlib/libjenturik_c.a, for x86-64 Linux; it needs no other library:
+ *
+ *     cc -Iinclude program.c target/staticlib/libjenturik_c.a
+ *
+ * A program makes a table once (jenturik_fresh), edits the graph by jenturik_take and jenturik_link, each link followed by jenturik_shade, and spends
+ * some collector steps each frame (jenturik_collect_many). What no slot leads to any more is found and becomes free. examples/viewer.c is such a
+ * program.
+ *
  * The caller keeps everything: three arrays (left edges, right edges, colours) of M entries each, M from 3 to 4096, and the record, an array of
  * sixteen 32-bit words. Each array is handed over as a pointer and a number of entries. A call reads and writes these arrays only, as told at each
- * call below; it keeps nothing, allocates nothing, and ends, whatever they hold. A pointer may be null where its number of entries is 0.
+ * call below; it keeps nothing, allocates nothing, and ends, whatever they hold. A pointer may be null where its number of entries is 0. Between two
+ * calls the caller may read all of it (left[n] is the node that n's left edge points to), and writes none of it. What a node means to the program is
+ * kept by the program, under the node's number, which jenturik_take answers; the number stays the node's as long as a slot leads to it.
+ *
+ * Node 0 is NIL: an edge to it is a missing edge. Node 1 is FREE: its left edge is the first free node, whose left edge is the next. Slot s is node
+ * s + 2; it is always there. There are R slots, 1 to 64, and R + 2 is at most M.
+ * A place is a slot, a count of turns (0 to 12) and a word whose bit j, lowest first, is turn j: 0 left, 1 right; the other bits are 0. So (s, 0, 0)
+ * is the slot's own node, (s, 1, 0) what is on its left, (s, 2, 2) what is on the right of that. Behind a missing edge every place is NIL. To make an
+ * edge missing, link it to such a place: a slot on which nothing is ever hung has one, (s, 1, 0).
+ * A side is 0, left, or 1, right. Numbers out of range are refused, however large they are.
  *
  * A refused call has a code above 0 and changes nothing, neither in the arrays nor in the words (jenturik_fresh apart, which writes the words
- * whatever it answers). Words that are no record's are refused with code 2.
+ * whatever it answers; of a schedule and of many steps it is the refused step that changes nothing). Words that are no record's are refused with code
+ * 2, before anything else is judged. Where jenturik_fresh made the table, nothing but these calls has written to it since, and it is handed over with
+ * its own lengths, codes 1, 2 and 7 do not come, and no collector step is refused. After code 9 make collector steps and try again.
  *
- * Node 0 is NIL, node 1 is FREE (its left edge is the first free node), slot s is node s + 2. There are R slots, 1 to 64, and R + 2 is at most M.
- * A place is a slot, a count of turns (0 to 12) and a word whose bit j, lowest first, is turn j: 0 left, 1 right; the other bits are 0.
- * A side is 0, left, or 1, right. Numbers out of range are refused, however large they are.
+ * How many collector steps: with B = M * M + 5 * M + R + 2, a cycle takes at most B, and a node that no slot leads to is free again after at most
+ * 3 * B, however busy the program is; most often both come much sooner.
  *
  * The calls are not to be made at the same time from two threads over the same arrays.
  */
@@ -23,7 +41,7 @@
 extern "C" {
 #endif
 
-/* The record's words. */
+/* The record's words. Those of a record are below 65536, but for steps, cycles and took. */
 enum {
     JENTURIK_NODES = 0,      /* M */
     JENTURIK_SLOTS = 1,      /* R */
@@ -37,22 +55,22 @@ enum {
     JENTURIK_CYCLES = 9,     /* cycles completed; stays at its largest value */
     JENTURIK_TOOK = 10,      /* collector steps of the last completed cycle */
     JENTURIK_BLACKENED = 11, /* nodes blackened in this marking */
-    JENTURIK_IN_USE = 12,    /* nodes in use: nodes blackened in the last completed marking */
+    JENTURIK_IN_USE = 12,    /* nodes in use: nodes blackened in the last completed marking, NIL, FREE, slots and free nodes among them */
     JENTURIK_WORDS = 16      /* words 13, 14 and 15 have no use yet and are 0 */
 };
 
 /* What was done. */
 enum {
     JENTURIK_REFUSED = 0,
-    JENTURIK_STARTED = 1,
-    JENTURIK_NAMED = 2,
-    JENTURIK_LINKED = 3,
-    JENTURIK_TAKEN = 4,
-    JENTURIK_SHADED = 5,
-    JENTURIK_LOOKED = 6,
-    JENTURIK_MADE_BLACK = 7,
-    JENTURIK_WHITENED = 8,
-    JENTURIK_APPENDED = 9
+    JENTURIK_STARTED = 1,    /* fresh: the last free node, 1 where none is free */
+    JENTURIK_NAMED = 2,      /* look */
+    JENTURIK_LINKED = 3,     /* link: the target */
+    JENTURIK_TAKEN = 4,      /* take: the node taken */
+    JENTURIK_SHADED = 5,     /* shade, and the collector: the node shaded */
+    JENTURIK_LOOKED = 6,     /* the collector: looked at a node, */
+    JENTURIK_MADE_BLACK = 7, /* made it black, */
+    JENTURIK_WHITENED = 8,   /* made a black one white, which stays in use, */
+    JENTURIK_APPENDED = 9    /* appended a white one to the free nodes: its number is free for another use */
 };
 
 /* Codes: why a call was refused. */
@@ -62,11 +80,11 @@ enum {
     JENTURIK_BAD_RECORD = 2,      /* words that are no record's, or a number of the record out of its range */
     JENTURIK_NO_SLOT = 3,         /* a place's slot is not below R */
     JENTURIK_BAD_TURNS = 4,       /* more than 12 turns, or bits at or above the count */
-    JENTURIK_SHADE_IS_OWED = 5,   /* Link or Take before the last Link's Shade */
-    JENTURIK_NOTHING_IS_OWED = 6, /* Shade where none is */
+    JENTURIK_SHADE_IS_OWED = 5,   /* link or take before the last link's shade */
+    JENTURIK_NOTHING_IS_OWED = 6, /* shade where none is owed */
     JENTURIK_DAMAGED = 7,         /* a bad edge or colour; the answer has its node */
-    JENTURIK_SOURCE_IS_NIL = 8,
-    JENTURIK_NO_FREE_NODE = 9,
+    JENTURIK_SOURCE_IS_NIL = 8,   /* link or take: nothing is at the source place, so it has no edge */
+    JENTURIK_NO_FREE_NODE = 9,    /* take */
     JENTURIK_UNREADABLE = 10      /* a side above 1, a kind above 4, a schedule whose words are not eight to a step */
 };
 
@@ -123,7 +141,7 @@ jenturik_told jenturik_collect(uint16_t *left, size_t lefts, uint16_t *right, si
                                uint32_t words[JENTURIK_WORDS]);
 
 /* n steps of the collector, or as many as are done before one is refused: exactly what n calls of jenturik_collect do, much faster. Where n is 0,
- * codes 1 and 2 are judged and nothing is done. */
+ * codes 1 and 2 are judged and nothing is done; the answer is then JENTURIK_NAMED with node 0. */
 jenturik_last jenturik_collect_many(uint16_t *left, size_t lefts, uint16_t *right, size_t rights, uint8_t *colour, size_t colours,
                                     uint32_t words[JENTURIK_WORDS], size_t n);
 

@@ -73,7 +73,8 @@ static void too_wide(int word) {
 }
 
 static void words_of_phase(uint32_t phase, uint32_t owes) {
-    static const int wide[] = {JENTURIK_NODES, JENTURIK_SLOTS, JENTURIK_I, JENTURIK_K, JENTURIK_OWED, JENTURIK_LAST, JENTURIK_BLACKENED, JENTURIK_IN_USE};
+    static const int wide[] = {JENTURIK_NODES, JENTURIK_SLOTS, JENTURIK_I,         JENTURIK_K,
+                               JENTURIK_OWED,  JENTURIK_LAST,  JENTURIK_BLACKENED, JENTURIK_IN_USE};
     static const uint32_t no_phase[] = {6, 7, 256, BIG}, no_owes[] = {2, 256, 257, BIG, BIG + 1};
     bad = sound;
     set_phase(&bad, phase, owes);

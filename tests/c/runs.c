@@ -168,7 +168,8 @@ static void schedules(void) {
         lend(&t, &start, (int)(numbers % 2));
         d = jenturik_schedule(LENT(&t), (const uint32_t *)steps, numbers);
         take_back(&t, &after);
-        if (numbers % 8 != 0) check(d.done == 0 && d.code == JENTURIK_UNREADABLE && same(&start, &after), "a ragged schedule", "schedule", (long)numbers);
+        if (numbers % 8 == 0) continue;
+        check(d.done == 0 && d.code == JENTURIK_UNREADABLE && same(&start, &after), "a ragged schedule", "schedule", (long)numbers);
     }
     lend(&t, &start, 1);
     d = jenturik_schedule(LENT(&t), NULL, 0);

@@ -100,7 +100,8 @@ static void by_many(jenturik_told told) {
     lend(&t, &given, high);
     jenturik_last a = jenturik_collect_many(LENT(&t), 1);
     take_back(&t, &again);
-    if (a.what != told.what || a.code != told.code || a.node != told.node || a.done != (told.code == 0)) fence_fail("collect_many tells another answer");
+    if (a.what != told.what || a.code != told.code || a.node != told.node || a.done != (told.code == 0))
+        fence_fail("collect_many tells another answer");
     if (!same(&after, &again)) fence_fail("collect_many leaves another state");
 }
 

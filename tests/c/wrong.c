@@ -1,19 +1,19 @@
 /* Wrong libraries. The linker puts these before the true calls (--wrap); the number in the environment's WRONG says what is spoilt, 0 nothing.
- * tests/library-bites runs the tests against each, and each must be found. */
+ * tests/library runs the tests against each, and each must be found. */
 #include "jenturik.h"
 #include <stdlib.h>
 
 #define ARRAYS uint16_t *left, size_t lefts, uint16_t *right, size_t rights, uint8_t *colour, size_t colours
 #define READ_ARRAYS const uint16_t *left, size_t lefts, const uint16_t *right, size_t rights, const uint8_t *colour, size_t colours
 #define TABLE left, lefts, right, rights, colour, colours, words
+#define EDGES_ARRAYS uint16_t *left, size_t lefts, uint16_t *right, size_t rights, const uint8_t *colour, size_t colours
+#define COLOUR_ARRAYS const uint16_t *left, size_t lefts, const uint16_t *right, size_t rights, uint8_t *colour, size_t colours
 #define PLACE uint32_t slot, uint32_t count, uint32_t word
 
 jenturik_told __real_jenturik_fresh(ARRAYS, uint32_t *words, uint32_t nodes, uint32_t slots);
 jenturik_told __real_jenturik_look(READ_ARRAYS, const uint32_t *words, PLACE);
-jenturik_told __real_jenturik_link(uint16_t *left, size_t lefts, uint16_t *right, size_t rights, const uint8_t *colour, size_t colours, uint32_t *words,
-                                   PLACE, uint32_t side, uint32_t toslot, uint32_t tocount, uint32_t toword);
-jenturik_told __real_jenturik_shade(const uint16_t *left, size_t lefts, const uint16_t *right, size_t rights, uint8_t *colour, size_t colours,
-                                    uint32_t *words);
+jenturik_told __real_jenturik_link(EDGES_ARRAYS, uint32_t *words, PLACE, uint32_t side, uint32_t toslot, uint32_t tocount, uint32_t toword);
+jenturik_told __real_jenturik_shade(COLOUR_ARRAYS, uint32_t *words);
 jenturik_told __real_jenturik_take(ARRAYS, uint32_t *words, PLACE, uint32_t side);
 jenturik_told __real_jenturik_collect(ARRAYS, uint32_t *words);
 jenturik_last __real_jenturik_collect_many(ARRAYS, uint32_t *words, size_t n);
@@ -37,16 +37,14 @@ jenturik_told __wrap_jenturik_look(READ_ARRAYS, const uint32_t *words, PLACE) {
     return __real_jenturik_look(TABLE, slot, count, word);
 }
 
-jenturik_told __wrap_jenturik_link(uint16_t *left, size_t lefts, uint16_t *right, size_t rights, const uint8_t *colour, size_t colours, uint32_t *words,
-                                   PLACE, uint32_t side, uint32_t toslot, uint32_t tocount, uint32_t toword) {
+jenturik_told __wrap_jenturik_link(EDGES_ARRAYS, uint32_t *words, PLACE, uint32_t side, uint32_t toslot, uint32_t tocount, uint32_t toword) {
     jenturik_told a = __real_jenturik_link(TABLE, slot, count, word, side, toslot, tocount, toword);
-    if (wrong(4) && a.code == 2) words[JENTURIK_OWES] = 0;             /* mends the record that it refuses */
+    if (wrong(4) && a.code == 2) words[JENTURIK_OWES] = 0;                /* mends the record that it refuses */
     if (wrong(5) && a.code == 0 && a.node == 0) words[JENTURIK_OWES] = 0; /* NIL owed taken for nothing owed */
     return a;
 }
 
-jenturik_told __wrap_jenturik_shade(const uint16_t *left, size_t lefts, const uint16_t *right, size_t rights, uint8_t *colour, size_t colours,
-                                    uint32_t *words) {
+jenturik_told __wrap_jenturik_shade(COLOUR_ARRAYS, uint32_t *words) {
     if (wrong(6)) words[15] = 0; /* overlooks a word that has no use */
     jenturik_told a = __real_jenturik_shade(TABLE);
     if (wrong(7) && a.code == 0) colour[a.node] = 2; /* black instead of gray */
@@ -63,7 +61,7 @@ jenturik_told __wrap_jenturik_take(ARRAYS, uint32_t *words, PLACE, uint32_t side
 
 jenturik_told __wrap_jenturik_collect(ARRAYS, uint32_t *words) {
     jenturik_told a = __real_jenturik_collect(TABLE);
-    if (wrong(10) && a.what == JENTURIK_APPENDED) left[lefts] = 0;          /* writes behind the array */
+    if (wrong(10) && a.what == JENTURIK_APPENDED) left[lefts] = 0;            /* writes behind the array */
     if (wrong(11) && a.what == JENTURIK_APPENDED) a.what = JENTURIK_WHITENED; /* tells another deed */
     return a;
 }
