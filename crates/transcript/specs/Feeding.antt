@@ -1,9 +1,9 @@
 -- Later lines as they come in: a state, the line at hand and the output, both in buffers.
 use Rattle.base.specs.Choice.{pick}
-use Prim.Native.Nat.{ℕ, _+_}
+use Prim.Native.Nat.{ℕ, _+_, _-_}
 use mathlib.Core.List.{List, [], _∷_}
-use lib.ListN.{take}
-use lib.Dec.{leb, eqb}
+use lib.ListN.{length, take, drop}
+use lib.Dec.{ltb, leb, eqb}
 use Rattle.rules.specs.Table.{State, state}
 use Rattle.text.specs.Grammar.{read}
 use Rattle.text.specs.Answers.{Written, written, contents, put, putAll}
@@ -60,3 +60,14 @@ pub record Begun (t : Told) (l r c : List ℕ) (line : Line) : Type 0 where
 unfoldable pub newlineFrom : List ℕ → ℕ → ℕ
 newlineFrom [] i = i
 newlineFrom (b ∷ input) i = pick (eqb b newline) i (newlineFrom input (i + 1))
+
+-- the line at hand with these bytes more
+abbrev pub gathered : Going → List ℕ → Going
+gathered g bytes = record { state = g .state; line = putAll (g .line) bytes; out = g .out }
+
+-- the bytes from position i on up to a newline, and with it the line's answer; or all that are left
+unfoldable pub nextLine : List ℕ → ℕ → Going → Taken
+nextLine input i g =
+    let n = newlineFrom (drop i input) i in
+    let h = gathered g (take (n - i) (drop i input)) in
+    pick (ltb n (length input)) (taken (n + 1) (ended h)) (taken n h)
