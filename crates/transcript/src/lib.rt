@@ -14,7 +14,7 @@ ghost use Rattle.rules.specs.Fresh.{fresh};
 ghost use Rattle.rules.specs.Schedules.{ran, schedule, collects};
 ghost use Rattle.text.specs.Grammar.{read};
 ghost use Rattle.transcript.specs.Transcript.{Line, prints, answered, position, startOf, collected, later, noTable, first};
-ghost use Rattle.transcript.specs.Feeding.{going, ended, finished, fed, feed, newlineFrom, nextLine, Begun};
+ghost use Rattle.transcript.specs.Feeding.{going, ended, finished, fed, feed, newlineFrom, nextLine, Rest, Begun};
 
 // What a line prints, and the record that it leaves.
 pub struct Told {
@@ -273,6 +273,7 @@ pub fn finish(
 fn start(left: &mut [u16], right: &mut [u16], colour: &mut [u8], m: usize, r: usize) -> Told
     requires { ⌜ (m ≤ length (now left)) × ((m ≤ length (now right)) × (m ≤ length (now colour))) ⌝ }
     ensures { λ t. ⌜ prints (t .code) (t .node) (state (take m (now (left .exit))) (take m (now (right .exit))) (take m (now (colour .exit))) (t .rec)) ≡ answered (fresh m r (take m (now (left .entry))) (take m (now (right .entry))) (take m (now (colour .entry)))) ⌝ }
+    ensures { λ _. ⌜ Rest m (now (left .exit)) (now (right .exit)) (now (colour .exit)) (now (left .entry)) (now (right .entry)) (now (colour .entry)) ⌝ }
 {
     answered(fresh::fresh(&mut left[0..m], &mut right[0..m], &mut colour[0..m], m, r))
 }
@@ -299,7 +300,7 @@ fn refused(code: u8) -> Told
 // A fresh table of m nodes and r slots in tables of 4,096 entries.
 fn begin(left: &mut [u16], right: &mut [u16], colour: &mut [u8], m: u32, r: u32) -> Told
     requires { ⌜ (4096 ≤ length (now left)) × ((4096 ≤ length (now right)) × (4096 ≤ length (now colour))) ⌝ }
-    ensures { λ t. ⌜ Begun t (now (left .exit)) (now (right .exit)) (now (colour .exit)) (first (Said.First m r)) ⌝ }
+    ensures { λ t. ⌜ Begun t (now (left .exit)) (now (right .exit)) (now (colour .exit)) (now (left .entry)) (now (right .entry)) (now (colour .entry)) (first (Said.First m r)) ⌝ }
 {
     if 4096 < m {
         return refused(1);
@@ -310,7 +311,7 @@ fn begin(left: &mut [u16], right: &mut [u16], colour: &mut [u8], m: u32, r: u32)
 // What the first line prints, and the table that it begins.
 pub fn first(left: &mut [u16], right: &mut [u16], colour: &mut [u8], line: &[u8]) -> Told
     requires { ⌜ (4096 ≤ length (now left)) × ((4096 ≤ length (now right)) × (4096 ≤ length (now colour))) ⌝ }
-    ensures { λ t. ⌜ Begun t (now (left .exit)) (now (right .exit)) (now (colour .exit)) (first (read (now (line .entry)))) ⌝ }
+    ensures { λ t. ⌜ Begun t (now (left .exit)) (now (right .exit)) (now (colour .exit)) (now (left .entry)) (now (right .entry)) (now (colour .entry)) (first (read (now (line .entry)))) ⌝ }
 {
     let said = text::read(line);
     match said {
@@ -330,7 +331,7 @@ pub fn first_of(
     end: usize,
 ) -> Told
     requires { ⌜ (4096 ≤ length (now left)) × ((4096 ≤ length (now right)) × (4096 ≤ length (now colour))) ⌝ }
-    ensures { λ t. ⌜ Begun t (now (left .exit)) (now (right .exit)) (now (colour .exit)) (first (read (take end (now (input .entry))))) ⌝ }
+    ensures { λ t. ⌜ Begun t (now (left .exit)) (now (right .exit)) (now (colour .exit)) (now (left .entry)) (now (right .entry)) (now (colour .entry)) (first (read (take end (now (input .entry))))) ⌝ }
 {
     if input.len() <= end {
         return first(left, right, colour, input);
