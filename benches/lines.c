@@ -1,7 +1,9 @@
 /* The schedule program in plain C, to measure against: document 01's grammar and rules, a line read by fgets and an answer written
-   by printf, both with buffers of 64 KiB. The collector is that of plain.c, its many steps with memchr. */
+   by printf, both with buffers of 64 KiB. The collector is that of plain.c, its many steps with memchr. Where UNLOCKED is defined, fgets
+   and printf take no locks. */
 #include "plain.h"
 #include <stdio.h>
+#include <stdio_ext.h>
 #include <stdlib.h>
 #include <string.h>
 
@@ -193,6 +195,9 @@ int main(void) {
   const char *end;
   struct answer a;
   setvbuf(stdin, in, _IOFBF, sizeof in), setvbuf(stdout, out, _IOFBF, sizeof out);
+#ifdef UNLOCKED
+  __fsetlocking(stdin, FSETLOCKING_BYCALLER), __fsetlocking(stdout, FSETLOCKING_BYCALLER);
+#endif
   end = read_line(line);
   a = first(line, end ? end : line);
   printf("code=%d node=%d\n", a.code, a.node);

@@ -1,6 +1,6 @@
-"""lines.py OURS C TIMED DIR: the schedule program OURS and the one in plain C on the same schedules, by turns; prints the tables of
-docs/BENCHMARKS.md. A time is the least of RUNS, output to /dev/null. TIMED is the program of timed.c; the schedules are put into DIR.
-Ends with 1 where the two write different bytes."""
+"""lines.py OURS C UNLOCKED TIMED DIR: the schedule program OURS and the one in plain C, with and without locks, on the same schedules, by
+turns; prints the tables of docs/BENCHMARKS.md. A time is the least of RUNS, output to /dev/null. TIMED is the program of timed.c; the
+schedules are put into DIR. Ends with 1 where two write different bytes."""
 import os
 import subprocess
 import sys
@@ -49,19 +49,20 @@ def codes(text):
     return ", ".join("%s: %s" % (code, f"{found[code]:,}") for code in sorted(found, key=int))
 
 
-def main(ours, plain, timer, folder):
+def main(ours, plain, unlocked, timer, folder):
     inputs = [("mixed", *mixture(LINES)), ("mixed, no collect", *mixture(LINES, 0))]
-    print("| input | lines | bytes | ours, ms | C, ms | ours / C |\n|---|---|---|---|---|---|")
+    print("| input | lines | bytes | ours, ms | C, ms | C unlocked, ms | ours / C | ours / C unlocked |\n|---|---|---|---|---|---|---|---|")
     notes = []
     for name, first, body in inputs:
         path = os.path.join(folder, "lines.txt")
         with open(path, "wb") as target:
             target.write(first + body)
         text = written(ours, path)
-        if text != written(plain, path):
-            sys.exit("lines: the two write different bytes on the input '%s'" % name)
-        times = [t / 1e6 for t, _ in measure(timer, [ours, plain], path)]
-        print("| %s | %s | %s | %.1f | %.1f | %.2f |" % (name, f"{LINES:,}", f"{len(first + body):,}", *times, times[0] / times[1]), flush=True)
+        if any(text != written(other, path) for other in (plain, unlocked)):
+            sys.exit("lines: two write different bytes on the input '%s'" % name)
+        times = [t / 1e6 for t, _ in measure(timer, [ours, plain, unlocked], path)]
+        ratios = [times[0] / t for t in times[1:]]
+        print("| %s | %s | %s | %.1f | %.1f | %.1f | %.2f | %.2f |" % (name, f"{LINES:,}", f"{len(first + body):,}", *times, *ratios), flush=True)
         notes.append("%s: codes %s" % (name, codes(text)))
     print("\n| lines | ours, KiB at most | C, KiB at most |\n|---|---|---|")
     _, first, body = inputs[0]
