@@ -207,7 +207,7 @@ fn main() {
     let mut colour = [0u8; 4096];
     let mut input = io::large_buffer();
     let n = io::read_full(0, &mut input);
-    let end = transcript::first_end(&input[..n]);
+    let end = transcript::newline_from(&input[..n], 0);
     let told = transcript::first_of(&mut left, &mut right, &mut colour, &input[..n], end);
     answer(&mut left, &mut right, &mut colour, &mut input, told, n, end);
 }

@@ -340,7 +340,8 @@ pub fn put(out: &mut [u8], used: usize, b: u8) -> usize
     used
 }
 
-fn put_all(out: &mut [u8], used: usize, word: &[u8]) -> usize
+// Bytes more of the output, as far as there is room; answers how much is used.
+pub fn put_all(out: &mut [u8], used: usize, word: &[u8]) -> usize
     ensures { λ r. ⌜ written (now (out .exit)) r ≡ putAll (written (now (out .entry)) used) (now (word .entry)) ⌝ }
 {
     let mut at = used;

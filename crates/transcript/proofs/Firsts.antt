@@ -1,11 +1,12 @@
 -- The first line: a table in the first entries of longer lists.
-use Prim.Native.Nat.{ℕ, _<_, _≤_}
+use Prim.Native.Nat.{ℕ, _-_, _<_, _≤_}
 use mathlib.Core.Bool.{Bool, true, false}
 use mathlib.Core.Path.{_≡_, refl, sym, ap, _∙_}
 use mathlib.Core.List.{List, [], _++_}
 use native.Mathlib.Omega.{arith}
-use lib.ListN.{length, take, replicate, length-replicate}
-use lib.Seq.{take-at, length-take-le}
+use lib.ListN.{length, take, drop, replicate, length-replicate, take-append-drop}
+use native.Mathlib.Nat.{sub-zero}
+use lib.Seq.{take-at, drop-at, length-take-le}
 use Rattle.base.specs.Choice.{pick}
 use Rattle.base.proofs.Tests.{every-skip, every-here, le-yes, le-no}
 use Rattle.rules.specs.Table.{State, Outcome, state}
@@ -15,12 +16,15 @@ use Rattle.rules.specs.declared.Record.{Record}
 use Rattle.rules.specs.declared.Answer.the-variants.{Started, Refused}
 use Rattle.text.specs.declared.Said.the-variants.{First}
 use Rattle.transcript.specs.Transcript.{Line, prints, answered, noTable, first}
-use Rattle.transcript.specs.Feeding.{Begun}
+use Rattle.transcript.specs.Feeding.{Rest, Begun}
 use Rattle.transcript.specs.declared.Told.{Told}
 
 pub front : (l r c l′ r′ c′ : List ℕ) (x : Record) (m code node : ℕ) (o : Line) → length l ≡ m → length r ≡ m → length c ≡ m
     → prints code node (state l r c x) ≡ o → prints code node (state (take m (l ++ l′)) (take m (r ++ r′)) (take m (c ++ c′)) x) ≡ o
 front l r c l′ r′ c′ x m code node o p q s e = rw (take-at l l′ m p, take-at r r′ m q, take-at c c′ m s) e
+
+pub back : (l l₀ : List ℕ) (m : ℕ) → length l ≡ m → drop m (l ++ drop (m - 0) l₀) ≡ drop m l₀
+back l l₀ m e = rw sub-zero (drop-at l (drop m l₀) m e)
 
 -- a fresh table in lists of m entries, whatever they hold
 judged : (m r : ℕ) (l k c : List ℕ) → length l ≡ m → length k ≡ m → length c ≡ m
@@ -31,10 +35,14 @@ judged m r l k c p q s = rw (p, q, s)
 
 -- nothing is begun
 pub fails : (t : Told) (l k c : List ℕ) (line : Line) (code : ℕ) → prints (t .code) (t .node) (state [] [] [] (t .rec)) ≡ prints code 0 noTable
-    → code ≡ line .code → 0 ≡ line .node → (code ≡ 0 → ⊥) → Begun t l k c line
-fails t l k c line code e p q h =
+    → code ≡ line .code → 0 ≡ line .node → freshRecord 0 0 0 ≡ line .state .rec → (code ≡ 0 → ⊥) → Begun t l k c l k c line
+fails t l k c line code e p q s h =
     let a : t .code ≡ code = ap (λ (o : Line). o .code) e in
-    record { code = a ∙ p; node = ap (λ (o : Line). o .node) e ∙ q; table = λ z. absurd (h (sym a ∙ z)) }
+    record { code = a ∙ p; node = ap (λ (o : Line). o .node) e ∙ q; rec = ap (λ (o : Line). o .state .rec) e ∙ s; table = λ z. absurd (h (sym a ∙ z)); rest = (refl, refl, refl) }
+
+-- lists that are the same in front and behind
+whole : (m : ℕ) (l l₀ : List ℕ) → take m l ≡ take m l₀ → drop m l ≡ drop m l₀ → l ≡ l₀
+whole m l l₀ p q = sym (take-append-drop m l) ∙ rw (p, q) (take-append-drop m l₀)
 
 module _ (m r : ℕ) where
   begins : State → Line
@@ -53,33 +61,39 @@ module _ (m r : ℕ) where
   large h = every-skip _ _ _ (le-yes 3 m (omega arith)) (every-here _ _ (le-no m 4096 h))
 
   pub too-large : (t : Told) (l k c : List ℕ) → 4096 < m → prints (t .code) (t .node) (state [] [] [] (t .rec)) ≡ prints 1 0 noTable
-      → Begun t l k c (first (First m r))
-  unfolding begins pick
-  too-large t l k c h e = rw (stated, ← large h) (fails t l k c _ 1 e refl refl (λ z. omega arith))
+      → Begun t l k c l k c (first (First m r))
+  unfolding begins blank pick
+  too-large t l k c h e = rw (stated, ← large h) (fails t l k c _ 1 e refl refl refl (λ z. omega arith))
 
-  module _ (t : Told) (l k c : List ℕ) where
+  module _ (t : Told) (l k c l₀ k₀ c₀ : List ℕ) (d : Rest m l k c l₀ k₀ c₀) where
     kept : prints (t .code) (t .node) (state (take m l) (take m k) (take m c) (t .rec)) ≡ prints 0 (freshLast m r) (freshState m r)
-        → Begun t l k c (prints 0 (freshLast m r) (freshState m r))
+        → Begun t l k c l₀ k₀ c₀ (prints 0 (freshLast m r) (freshState m r))
     unfolding freshState
     kept e =
         let n : t .rec .m ≡ m = ap (λ (o : Line). o .state .rec .m) e in
-        record { code = ap (λ (o : Line). o .code) e; node = ap (λ (o : Line). o .node) e; table = λ z. ap (λ (i : ℕ). state (take i l) (take i k) (take i c) (t .rec)) n ∙ ap (λ (o : Line). o .state) e }
+        record { code = ap (λ (o : Line). o .code) e; node = ap (λ (o : Line). o .node) e; rec = ap (λ (o : Line). o .state .rec) e; table = λ z. ap (λ (i : ℕ). state (take i l) (take i k) (take i c) (t .rec)) n ∙ ap (λ (o : Line). o .state) e; rest = rw n d }
 
-    lost : (s s′ s″ : State) → prints (t .code) (t .node) s ≡ prints 1 0 s′ → Begun t l k c (prints 1 0 s″)
-    lost s s′ s″ e =
+    lost : (s : State) → s .rec ≡ freshRecord 0 0 0
+        → prints (t .code) (t .node) (state (take m l) (take m k) (take m c) (t .rec)) ≡ prints 1 0 (state (take m l₀) (take m k₀) (take m c₀) (freshRecord 0 0 0))
+        → Begun t l k c l₀ k₀ c₀ (prints 1 0 s)
+    lost s b e =
         let a : t .code ≡ 1 = ap (λ (o : Line). o .code) e in
-        record { code = a; node = ap (λ (o : Line). o .node) e; table = λ z. absurd (omega arith) }
+        let x : t .rec ≡ freshRecord 0 0 0 = ap (λ (o : Line). o .state .rec) e in
+        let p = whole m l l₀ (ap (λ (o : Line). o .state .left) e) (d .0) in
+        let q = whole m k k₀ (ap (λ (o : Line). o .state .right) e) (d .1) in
+        let r = whole m c c₀ (ap (λ (o : Line). o .state .colour) e) (d .2) in
+        record { code = a; node = ap (λ (o : Line). o .node) e; rec = x ∙ sym b; table = λ z. absurd (omega arith); rest = rw x (p, q, r) }
 
     -- r is what `start` left of longer lists
-    pub begun : (l₀ k₀ c₀ : List ℕ) → m ≤ length l₀ → m ≤ length k₀ → m ≤ length c₀
+    pub begun : m ≤ length l₀ → m ≤ length k₀ → m ≤ length c₀
         → prints (t .code) (t .node) (state (take m l) (take m k) (take m c) (t .rec)) ≡ answered (fresh m r (take m l₀) (take m k₀) (take m c₀))
-        → Begun t l k c (first (First m r))
-    unfolding begins pick
-    begun l₀ k₀ c₀ p q s e =
+        → Begun t l k c l₀ k₀ c₀ (first (First m r))
+    unfolding begins blank pick
+    begun p q s e =
         rw stated (go (sizeOk m r m m m) refl (e ∙ ap answered (judged m r _ _ _ (length-take-le m l₀ p) (length-take-le m k₀ q) (length-take-le m c₀ s))))
       where
         go : (b : Bool) → sizeOk m r m m m ≡ b
             → prints (t .code) (t .node) (state (take m l) (take m k) (take m c) (t .rec)) ≡ begins (state (take m l₀) (take m k₀) (take m c₀) (freshRecord 0 0 0))
-            → Begun t l k c (begins blank)
+            → Begun t l k c l₀ k₀ c₀ (begins blank)
         go true z f = rw z (kept (rw z at f))
-        go false z f = rw z (lost _ _ _ (rw z at f))
+        go false z f = rw z (lost _ refl (rw z at f))

@@ -15,6 +15,7 @@ use Rattle.text.specs.Grammar.{read}
 use Rattle.transcript.specs.Transcript.{Line, newline, printed, first, answers, opening, transcript}
 use Rattle.transcript.specs.Feeding.{newlineFrom}
 use Rattle.transcript.proofs.Kept.{long}
+use Rattle.transcript.proofs.Feeds.{behind}
 
 -- what is printed for a first line and what follows it
 abbrev pub begins : Line → List ℕ → List ℕ
@@ -36,11 +37,6 @@ at-end line (b ∷ more) h =
     let l = h (omega arith) in
     too-long line (b ∷ more) l ∙ rw (← long line l) (sym (append-nil _))
 
-behind : (input : List ℕ) (i : ℕ) → i ≤ newlineFrom input i
-unfolding newlineFrom
-behind [] i = omega arith
-behind (b ∷ input) i = split (λ (n : ℕ). i ≤ n) _ _ _ (λ _. omega arith) (λ _. let h = behind input (i + 1) in omega arith)
-
 module _ (more : List ℕ) where
   opens : (input line : List ℕ) (i : ℕ) → (0 < length more → 80 < length line + length input)
       → opening line (input ++ more) ≡ begins (first (read (line ++ take (newlineFrom input i - i) input))) (drop (newlineFrom input i - i + 1) input ++ more)
@@ -61,7 +57,7 @@ module _ (more : List ℕ) where
           let k : suc (newlineFrom input (i + 1) - (i + 1)) + 1 ≡ suc (newlineFrom input (i + 1) - (i + 1) + 1) = omega arith in
           rw (e, n, k, ← append-snoc line b (take (newlineFrom input (i + 1) - (i + 1)) input)) (f (λ p. let q = h p in omega (arith, length-append line (b ∷ []))))
 
--- calls of `first_end` and `first_of`, where the input is all there is or more than 80 bytes
+-- calls of `newline_from`, from 0 on, and `first_of`, where the input is all there is or more than 80 bytes
 pub first-prints : (more input : List ℕ) (e : ℕ) → e ≡ newlineFrom input 0 → (0 < length more → 80 < length input)
     → transcript (input ++ more) ≡ begins (first (read (take e input))) (drop (e + 1) input ++ more)
 first-prints more input e q h = rw q (rw (sub-zero (newlineFrom input 0)) at (opens more input [] 0 (λ k. let l = h k in omega arith)))

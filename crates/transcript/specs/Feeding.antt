@@ -1,9 +1,9 @@
 -- Later lines as they come in: a state, the line at hand and the output, both in buffers.
 use Rattle.base.specs.Choice.{pick}
-use Prim.Native.Nat.{ℕ, _+_}
+use Prim.Native.Nat.{ℕ, _+_, _-_}
 use mathlib.Core.List.{List, [], _∷_}
-use lib.ListN.{take}
-use lib.Dec.{leb, eqb}
+use lib.ListN.{length, take, drop}
+use lib.Dec.{ltb, leb, eqb}
 use Rattle.rules.specs.Table.{State, state}
 use Rattle.text.specs.Grammar.{read}
 use Rattle.text.specs.Answers.{Written, written, contents, put, putAll}
@@ -50,13 +50,30 @@ unfoldable pub feed : List ℕ → ℕ → Going → Taken
 feed [] i g = taken i g
 feed (b ∷ input) i g = pick (leb (g .out .used) 65514) (feed input (i + 1) (nextByte g b)) (taken i g)
 
--- a first line's answer, and the table in the first entries of the program's own
-pub record Begun (t : Told) (l r c : List ℕ) (line : Line) : Type 0 where
+-- the entries from m on are as they were
+abbrev pub Rest : ℕ → List ℕ → List ℕ → List ℕ → List ℕ → List ℕ → List ℕ → Type 0
+Rest m l r c l₀ r₀ c₀ = (drop m l ≡ drop m l₀) × (drop m r ≡ drop m r₀) × (drop m c ≡ drop m c₀)
+
+-- a first line's answer, and the table in the first entries of the program's own, which held l₀, r₀ and c₀; where the line is refused the record's M is 0, so that all are as they were
+pub record Begun (t : Told) (l r c l₀ r₀ c₀ : List ℕ) (line : Line) : Type 0 where
   pub code : t .code ≡ line .code
   pub node : t .node ≡ line .node
+  pub rec : t .rec ≡ line .state .rec
   pub table : t .code ≡ 0 → state (take (t .rec .m) l) (take (t .rec .m) r) (take (t .rec .m) c) (t .rec) ≡ line .state
+  pub rest : Rest (t .rec .m) l r c l₀ r₀ c₀
 
 -- the position of the first newline, from position i on; past the input's end where there is none
 unfoldable pub newlineFrom : List ℕ → ℕ → ℕ
 newlineFrom [] i = i
 newlineFrom (b ∷ input) i = pick (eqb b newline) i (newlineFrom input (i + 1))
+
+-- the line at hand with these bytes more
+abbrev pub gathered : Going → List ℕ → Going
+gathered g bytes = record { state = g .state; line = putAll (g .line) bytes; out = g .out }
+
+-- the bytes from position i on up to a newline, and with it the line's answer; or all that are left
+unfoldable pub nextLine : List ℕ → ℕ → Going → Taken
+nextLine input i g =
+    let n = newlineFrom (drop i input) i in
+    let h = gathered g (take (n - i) (drop i input)) in
+    pick (ltb n (length input)) (taken (n + 1) (ended h)) (taken n h)

@@ -14,7 +14,7 @@ ghost use Rattle.rules.specs.Fresh.{fresh};
 ghost use Rattle.rules.specs.Schedules.{ran, schedule, collects};
 ghost use Rattle.text.specs.Grammar.{read};
 ghost use Rattle.transcript.specs.Transcript.{Line, prints, answered, position, startOf, collected, later, noTable, first};
-ghost use Rattle.transcript.specs.Feeding.{going, ended, nextByte, finished, fed, feed, newlineFrom, Begun};
+ghost use Rattle.transcript.specs.Feeding.{going, ended, finished, fed, feed, newlineFrom, nextLine, Rest, Begun};
 
 // What a line prints, and the record that it leaves.
 pub struct Told {
@@ -183,30 +183,50 @@ fn ended(
     }
 }
 
-// One byte more.
-fn next_byte(
+// The position of the first newline from position i on, or the input's length.
+pub fn newline_from(input: &[u8], i: usize) -> usize
+    ensures { λ r. ⌜ r ≡ newlineFrom (drop i (now (input .entry))) i ⌝ }
+{
+    let mut at = i;
+    while at < input.len() {
+        if input[at] == 10 {
+            return at;
+        }
+        at += 1;
+    }
+    at
+}
+
+// The bytes from position i on up to a newline, and with it the line's answer; or all that are left.
+fn next_line(
     left: &mut [u16],
     right: &mut [u16],
     colour: &mut [u8],
     line: &mut [u8],
     out: &mut [u8],
     g: Run,
-    b: u8,
-) -> Run
-    ensures { λ r. ⌜ going r (now (left .exit)) (now (right .exit)) (now (colour .exit)) (now (line .exit)) (now (out .exit)) ≡ nextByte (going g (now (left .entry)) (now (right .entry)) (now (colour .entry)) (now (line .entry)) (now (out .entry))) b ⌝ }
+    input: &[u8],
+    i: usize,
+) -> Fed
+    requires { ⌜ i < length (now input) ⌝ }
+    ensures { λ f. ⌜ fed f (now (left .exit)) (now (right .exit)) (now (colour .exit)) (now (line .exit)) (now (out .exit)) ≡ nextLine (now (input .entry)) i (going g (now (left .entry)) (now (right .entry)) (now (colour .entry)) (now (line .entry)) (now (out .entry))) ⌝ }
 {
-    if b == 10 {
-        return ended(left, right, colour, line, out, g);
-    }
+    let end = newline_from(input, i);
+    let at = text::put_all(line, g.at, &input[i..end]);
     let rec = g.rec;
-    Run {
+    let run = Run {
         rec,
-        at: text::put(line, g.at, b),
+        at,
         used: g.used,
+    };
+    if end < input.len() {
+        let run = ended(left, right, colour, line, out, run);
+        return Fed { next: end + 1, run };
     }
+    Fed { next: end, run }
 }
 
-// Bytes of the input from position i on, as long as there is room for one answer more in an output of 65,536 bytes.
+// Bytes of the input from position i on, a line at a time, as long as there is room for one answer more in an output of 65,536 bytes.
 pub fn feed(
     left: &mut [u16],
     right: &mut [u16],
@@ -225,8 +245,9 @@ pub fn feed(
         if 65514 < run.used {
             return Fed { next, run };
         }
-        run = next_byte(left, right, colour, line, out, run, input[next]);
-        next += 1;
+        let fed = next_line(left, right, colour, line, out, run, input, next);
+        run = fed.run;
+        next = fed.next;
     }
     Fed { next, run }
 }
@@ -248,24 +269,11 @@ pub fn finish(
     ended(left, right, colour, line, out, g)
 }
 
-// The position of the first newline, or the input's length.
-pub fn first_end(input: &[u8]) -> usize
-    ensures { λ r. ⌜ r ≡ newlineFrom (now (input .entry)) 0 ⌝ }
-{
-    let mut i = 0;
-    while i < input.len() {
-        if input[i] == 10 {
-            return i;
-        }
-        i += 1;
-    }
-    i
-}
-
 // A fresh table in the first m entries.
 fn start(left: &mut [u16], right: &mut [u16], colour: &mut [u8], m: usize, r: usize) -> Told
     requires { ⌜ (m ≤ length (now left)) × ((m ≤ length (now right)) × (m ≤ length (now colour))) ⌝ }
     ensures { λ t. ⌜ prints (t .code) (t .node) (state (take m (now (left .exit))) (take m (now (right .exit))) (take m (now (colour .exit))) (t .rec)) ≡ answered (fresh m r (take m (now (left .entry))) (take m (now (right .entry))) (take m (now (colour .entry)))) ⌝ }
+    ensures { λ _. ⌜ Rest m (now (left .exit)) (now (right .exit)) (now (colour .exit)) (now (left .entry)) (now (right .entry)) (now (colour .entry)) ⌝ }
 {
     answered(fresh::fresh(&mut left[0..m], &mut right[0..m], &mut colour[0..m], m, r))
 }
@@ -292,7 +300,7 @@ fn refused(code: u8) -> Told
 // A fresh table of m nodes and r slots in tables of 4,096 entries.
 fn begin(left: &mut [u16], right: &mut [u16], colour: &mut [u8], m: u32, r: u32) -> Told
     requires { ⌜ (4096 ≤ length (now left)) × ((4096 ≤ length (now right)) × (4096 ≤ length (now colour))) ⌝ }
-    ensures { λ t. ⌜ Begun t (now (left .exit)) (now (right .exit)) (now (colour .exit)) (first (Said.First m r)) ⌝ }
+    ensures { λ t. ⌜ Begun t (now (left .exit)) (now (right .exit)) (now (colour .exit)) (now (left .entry)) (now (right .entry)) (now (colour .entry)) (first (Said.First m r)) ⌝ }
 {
     if 4096 < m {
         return refused(1);
@@ -303,7 +311,7 @@ fn begin(left: &mut [u16], right: &mut [u16], colour: &mut [u8], m: u32, r: u32)
 // What the first line prints, and the table that it begins.
 pub fn first(left: &mut [u16], right: &mut [u16], colour: &mut [u8], line: &[u8]) -> Told
     requires { ⌜ (4096 ≤ length (now left)) × ((4096 ≤ length (now right)) × (4096 ≤ length (now colour))) ⌝ }
-    ensures { λ t. ⌜ Begun t (now (left .exit)) (now (right .exit)) (now (colour .exit)) (first (read (now (line .entry)))) ⌝ }
+    ensures { λ t. ⌜ Begun t (now (left .exit)) (now (right .exit)) (now (colour .exit)) (now (left .entry)) (now (right .entry)) (now (colour .entry)) (first (read (now (line .entry)))) ⌝ }
 {
     let said = text::read(line);
     match said {
@@ -323,7 +331,7 @@ pub fn first_of(
     end: usize,
 ) -> Told
     requires { ⌜ (4096 ≤ length (now left)) × ((4096 ≤ length (now right)) × (4096 ≤ length (now colour))) ⌝ }
-    ensures { λ t. ⌜ Begun t (now (left .exit)) (now (right .exit)) (now (colour .exit)) (first (read (take end (now (input .entry))))) ⌝ }
+    ensures { λ t. ⌜ Begun t (now (left .exit)) (now (right .exit)) (now (colour .exit)) (now (left .entry)) (now (right .entry)) (now (colour .entry)) (first (read (take end (now (input .entry))))) ⌝ }
 {
     if input.len() <= end {
         return first(left, right, colour, input);

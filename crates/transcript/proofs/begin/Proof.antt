@@ -24,7 +24,7 @@ same-length-3 : tie.Need-same-length-3
 same-length-3 c = search needs
 
 returns-2 : tie.Need-returns-2
-returns-2 c = begun _ _ _ _ _ _ _ _ _ (omega arith) (omega arith) (omega arith) (c .before .before .before .before .before .before .start .ensures)
+returns-2 c = begun _ _ _ _ _ _ _ _ _ (c .before .before .before .before .before .before .start .ensures .1) (omega arith) (omega arith) (omega arith) (c .before .before .before .before .before .before .start .ensures .0)
 
 pub begin-spec : {M : Type 1} → statement M
 begin-spec =

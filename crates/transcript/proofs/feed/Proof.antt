@@ -1,10 +1,10 @@
 use Prim.Native.Nat.{_-_}
-use mathlib.Core.Path.{_≡_, refl, sym, _∙_}
+use mathlib.Core.Path.{_≡_, refl, _∙_}
 use lib.ListN.{length, drop}
 use native.Mathlib.Omega.{arith}
-use Rattle.base.proofs.Tests.{pick-yes, pick-no, le-no, le-yes}
+use Rattle.base.proofs.Tests.{pick-no, le-no}
 use Rattle.transcript.specs.Feeding.{going, feed}
-use Rattle.transcript.proofs.Feeds.{fed-turn, fed-all}
+use Rattle.transcript.proofs.Feeds.{fed-turn, fed-all, line-gains, line-turn}
 use Rattle.transcript.proofs.feed.Statement.{statement}
 use Rattle.transcript.proofs.feed.Tie as tie
 
@@ -36,20 +36,14 @@ same-length-5 c = omega arith
 returns : tie.Need-returns Inv-loop μ-loop
 returns c = rw (c .before .before .before .loop .inv .5, fed-turn _ _ _ (c .before .before .loop-test .taken)) (pick-no _ _ _ _ (le-no _ _ (c .if1 .taken)) refl)
 
-shared-slice-read-next-byte : tie.Need-shared-slice-read-next-byte Inv-loop μ-loop
-shared-slice-read-next-byte c = omega arith
-
-next-byte-requires : tie.Need-next-byte-requires Inv-loop μ-loop
-next-byte-requires c κs = omega arith
-
-add-next : tie.Need-add-next Inv-loop μ-loop
-add-next c = omega (arith, c .before .before .before .before .before .before .before .before .before .before .before .before .before .before .before .before .before .before .before .loop-test, c .before .before .before .before .before .before .before .before .before .before .before .before .before .before .before .before .before .before .before .before .before .before .before .before .before .before .before .good)
+next-line-requires : tie.Need-next-line-requires Inv-loop μ-loop
+next-line-requires c κs = omega arith
 
 loop-less : tie.Need-loop-less Inv-loop μ-loop
-loop-less c = omega arith
+loop-less c = let h = line-gains _ _ _ _ (c .before .before .before .before .before .before .before .before .before .before .before .next-line .ensures) (c .before .before .before .before .before .before .before .before .before .before .before .before .before .before .before .before .before .before .before .loop-test .taken) in omega arith
 
 loop-again : tie.Need-loop-again Inv-loop μ-loop
-loop-again c = (omega arith, omega arith, omega arith, omega arith, omega arith, c .before .before .before .before .before .before .before .before .before .before .before .before .before .before .before .before .before .before .before .before .loop .inv .5 ∙ sym (rw (fed-turn _ _ _ (c .before .before .before .before .before .before .before .before .before .before .before .before .before .before .before .before .before .before .before .loop-test .taken)) (pick-yes _ _ _ _ (le-yes _ _ (c .before .before .before .before .before .before .before .before .before .before .before .before .before .before .before .before .before .if1 .left)) (rw (c .before .before .before .before .before .before .before .before .before .before .next-byte .ensures)))))
+loop-again c = (omega arith, omega arith, omega arith, omega arith, omega arith, c .before .before .before .before .before .before .before .before .before .before .before .before .before .before .before .before .before .before .before .before .loop .inv .5 ∙ line-turn _ _ _ _ (c .before .before .before .before .before .before .before .before .before .before .before .next-line .ensures) (c .before .before .before .before .before .before .before .before .before .before .before .before .before .before .before .before .before .before .before .loop-test .taken) (c .before .before .before .before .before .before .before .before .before .before .before .before .before .before .before .before .before .if1 .left))
 
 same-length-6 : tie.Need-same-length-6 Inv-loop μ-loop
 same-length-6 c = omega arith
@@ -82,9 +76,7 @@ feed-spec =
     same-length-4
     same-length-5
     returns
-    shared-slice-read-next-byte
-    next-byte-requires
-    add-next
+    next-line-requires
     loop-less
     loop-again
     same-length-6

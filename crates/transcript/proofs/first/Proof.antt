@@ -49,15 +49,15 @@ returns c = rw (← c .before .before .before .before .before .before .before .b
 
 returns-2 : tie.Need-returns-2
 unfolding first
-returns-2 c = rw (← c .before .before .before .read .ensures, c .before .enum-told .given .1) (fails _ _ _ _ _ _ (c .refused .ensures) refl refl (λ z. omega arith))
+returns-2 c = rw (← c .before .before .before .read .ensures, c .before .enum-told .given .1) (fails _ _ _ _ _ _ (c .refused .ensures) refl refl refl (λ z. omega arith))
 
 returns-3 : tie.Need-returns-3
 unfolding first
-returns-3 c = rw (← c .before .before .before .read .ensures, c .before .enum-told2 .given .1) (fails _ _ _ _ _ _ (c .refused2 .ensures) refl refl (λ z. omega arith))
+returns-3 c = rw (← c .before .before .before .read .ensures, c .before .enum-told2 .given .1) (fails _ _ _ _ _ _ (c .refused2 .ensures) refl refl refl (λ z. omega arith))
 
 returns-4 : tie.Need-returns-4
 unfolding first
-returns-4 c = rw (← c .before .before .before .read .ensures, c .before .enum-told3 .given .1) (fails _ _ _ _ _ _ (c .refused3 .ensures) refl refl (λ z. omega arith))
+returns-4 c = rw (← c .before .before .before .read .ensures, c .before .enum-told3 .given .1) (fails _ _ _ _ _ _ (c .refused3 .ensures) refl refl refl (λ z. omega arith))
 
 pub first-spec : {M : Type 1} → statement M
 first-spec =

@@ -7,7 +7,7 @@ use native.Mathlib.Nat.{sub-zero}
 use borrow.Author.Needs.{needs}
 use Rattle.transcript.specs.Transcript.{answered}
 use Rattle.transcript.proofs.Collects.{last}
-use Rattle.transcript.proofs.Firsts.{front}
+use Rattle.transcript.proofs.Firsts.{front, back}
 use Rattle.transcript.proofs.start.Statement.{statement}
 use Rattle.transcript.proofs.start.Tie as tie
 
@@ -54,7 +54,7 @@ same-length-3 : tie.Need-same-length-3
 same-length-3 c = search needs
 
 returns : tie.Need-returns
-returns c = let a : length (c .before .before .before .before .before .before .before .fresh .last .0) ≡ c .before .before .before .before .before .before .before .before .before .before .before .before .before .before .args .m = omega (arith, length-take-le (c .before .before .before .before .before .before .before .before .before .before .before .before .before .before .args .m - 0) (c .before .before .before .before .before .before .before .before .before .before .before .before .before .before .args .left .now) (omega arith)) in let b : length (c .before .before .before .before .before .before .before .fresh .last .1 .0) ≡ c .before .before .before .before .before .before .before .before .before .before .before .before .before .before .args .m = omega (arith, length-take-le (c .before .before .before .before .before .before .before .before .before .before .before .before .before .before .args .m - 0) (c .before .before .before .before .before .before .before .before .before .before .before .before .before .before .args .right .now) (omega arith)) in let d : length (c .before .before .before .before .before .before .before .fresh .last .1 .1 .0) ≡ c .before .before .before .before .before .before .before .before .before .before .before .before .before .before .args .m = omega (arith, length-take-le (c .before .before .before .before .before .before .before .before .before .before .before .before .before .before .args .m - 0) (c .before .before .before .before .before .before .before .before .before .before .before .before .before .before .args .colour .now) (omega arith)) in let e = rw sub-zero at (c .before .before .before .before .before .before .before .fresh .ensures) in front _ _ _ _ _ _ _ _ _ _ _ a b d (c .answered .ensures _ _ _ ∙ ap answered e)
+returns c = let a : length (c .before .before .before .before .before .before .before .fresh .last .0) ≡ c .before .before .before .before .before .before .before .before .before .before .before .before .before .before .args .m = omega (arith, length-take-le (c .before .before .before .before .before .before .before .before .before .before .before .before .before .before .args .m - 0) (c .before .before .before .before .before .before .before .before .before .before .before .before .before .before .args .left .now) (omega arith)) in let b : length (c .before .before .before .before .before .before .before .fresh .last .1 .0) ≡ c .before .before .before .before .before .before .before .before .before .before .before .before .before .before .args .m = omega (arith, length-take-le (c .before .before .before .before .before .before .before .before .before .before .before .before .before .before .args .m - 0) (c .before .before .before .before .before .before .before .before .before .before .before .before .before .before .args .right .now) (omega arith)) in let d : length (c .before .before .before .before .before .before .before .fresh .last .1 .1 .0) ≡ c .before .before .before .before .before .before .before .before .before .before .before .before .before .before .args .m = omega (arith, length-take-le (c .before .before .before .before .before .before .before .before .before .before .before .before .before .before .args .m - 0) (c .before .before .before .before .before .before .before .before .before .before .before .before .before .before .args .colour .now) (omega arith)) in let e = rw sub-zero at (c .before .before .before .before .before .before .before .fresh .ensures) in (front _ _ _ _ _ _ _ _ _ _ _ a b d (c .answered .ensures _ _ _ ∙ ap answered e), (back (c .before .before .before .before .before .before .before .fresh .last .0) (c .before .before .before .before .before .before .before .before .before .before .before .before .before .before .args .left .now) _ a, back (c .before .before .before .before .before .before .before .fresh .last .1 .0) (c .before .before .before .before .before .before .before .before .before .before .before .before .before .before .args .right .now) _ b, back (c .before .before .before .before .before .before .before .fresh .last .1 .1 .0) (c .before .before .before .before .before .before .before .before .before .before .before .before .before .before .args .colour .now) _ d))
 
 pub start-spec : {M : Type 1} → statement M
 start-spec =

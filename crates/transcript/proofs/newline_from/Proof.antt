@@ -5,15 +5,15 @@ use native.Mathlib.Omega.{arith}
 use Rattle.base.proofs.Tests.{pick-yes, pick-no, eq-yes, eq-no}
 use Rattle.transcript.specs.Feeding.{newlineFrom}
 use Rattle.transcript.proofs.Feeds.{newline-turn, newline-none}
-use Rattle.transcript.proofs.first_end.Statement.{statement}
-use Rattle.transcript.proofs.first_end.Tie as tie
+use Rattle.transcript.proofs.newline_from.Statement.{statement}
+use Rattle.transcript.proofs.newline_from.Tie as tie
 
 abbrev Inv-loop : tie.InvT-loop
-Inv-loop input i₀ i =
-    newlineFrom input 0 ≡ newlineFrom (drop i input) i
+Inv-loop input i at₀ at =
+    newlineFrom (drop i input) i ≡ newlineFrom (drop at input) at
 
 abbrev μ-loop : tie.MeasureT-loop
-μ-loop input i₀ i = length input - i
+μ-loop input i at₀ at = length input - at
 
 loop-holds : tie.Need-loop-holds Inv-loop μ-loop
 loop-holds c = refl
@@ -24,8 +24,8 @@ shared-slice-read-if1 c = omega arith
 returns : tie.Need-returns Inv-loop μ-loop
 returns c = rw (c .before .before .before .loop .inv, newline-turn _ _ (c .before .before .loop-test .taken)) (pick-yes _ _ _ _ (eq-yes _ _ (c .if1 .taken)) refl)
 
-add-i : tie.Need-add-i Inv-loop μ-loop
-add-i c = omega arith
+add-at : tie.Need-add-at Inv-loop μ-loop
+add-at c = omega arith
 
 loop-less : tie.Need-loop-less Inv-loop μ-loop
 loop-less c = omega arith
@@ -36,8 +36,8 @@ loop-again c = c .before .before .before .loop .inv ∙ sym (rw (newline-turn _ 
 returns-2 : tie.Need-returns-2 Inv-loop μ-loop
 returns-2 c = rw (c .before .loop .inv) (newline-none _ _ (c .loop-test .left))
 
-pub first-end-spec : {M : Type 1} → statement M
-first-end-spec =
+pub newline-from-spec : {M : Type 1} → statement M
+newline-from-spec =
     tie.close
     (tie.spec
     Inv-loop
@@ -45,7 +45,7 @@ first-end-spec =
     loop-holds
     shared-slice-read-if1
     returns
-    add-i
+    add-at
     loop-less
     loop-again
     returns-2)
