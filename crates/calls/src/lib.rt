@@ -5,7 +5,6 @@ use rules::Place;
 use rules::Record;
 use rules::Step;
 ghost use mathlib.Core.Path.{_≡_};
-ghost use lib.ListN.{length};
 ghost use Rattle.rules.specs.Table.{state, outcome};
 ghost use Rattle.rules.specs.Steps.{step, source, target};
 ghost use Rattle.calls.specs.Unreadable.{unreadable};

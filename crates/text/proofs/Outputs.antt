@@ -1,11 +1,11 @@
 -- What is put into a buffer, part by part.
-use Prim.Native.Nat.{ℕ, _+_, _/_, _%_, _<_, _≤_}
+use Prim.Native.Nat.{ℕ, _+_, _<_, _≤_}
 use mathlib.Core.Path.{_≡_, refl, sym, _∙_}
 use mathlib.Core.List.{List, [], _∷_, _++_, append-nil}
 use native.Mathlib.Omega.{arith}
 use native.Mathlib.Numerals.{add-one}
 use borrow.Author.Tests.{lt-ltb, le-ltb}
-use lib.ListN.{length, getD, take, drop, set, drop-of-length-le, length-append, length-set}
+use lib.ListN.{length, getD, drop, set, drop-of-length-le, length-append, length-set}
 use lib.Seq.{drop-cons, take-suc-set, append-snoc}
 use Rattle.base.specs.Choice.{pick}
 use Rattle.base.proofs.Tests.{split}

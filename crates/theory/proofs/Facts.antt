@@ -10,7 +10,7 @@ use native.Mathlib.Omega.{arith}
 use Rattle.theory.specs.Reach.{Graph, Reach, Root, Slot, Garbage}
 use Rattle.theory.specs.Free.{Chain, Mem, FreeList}
 use Rattle.theory.proofs.Update.{Colours}
-use Rattle.theory.proofs.Reaches.{garbage-low, named-reached, slot-named, named-slot}
+use Rattle.theory.proofs.Reaches.{garbage-low, named-reached, slot-named}
 use Rattle.theory.proofs.Chains.{chain-unique, chain-distinct, chain-next}
 use Rattle.theory.proofs.Cover.{of-black, some-gray}
 use Rattle.theory.proofs.Marking.{Marking, none≢some}
@@ -25,10 +25,6 @@ pub data Marks : Phase → Type 0 where
   working : {i j : ℕ} → Marks (Working i j)
 
 module _ {E M T : ℕ} {σ : State} (v : Inv E M T σ) where
-  -- the node owed is NIL, or a slot reaches it
-  pub owed-slot : {t : ℕ} → owed σ ≡ some t → (t ≡ 0) ⊎ Reach E (Slot T) (edges σ) t
-  owed-slot {t} q = named-slot (v .shape .nil) (v .owes t q)
-
   -- last is 1, or lies in T .. M - 1
   pub last-lies : (last σ ≡ 1) ⊎ ((T ≤ last σ) × (last σ < M))
   last-lies = go (last-listed (v .shape))

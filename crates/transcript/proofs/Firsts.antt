@@ -9,7 +9,7 @@ use native.Mathlib.Nat.{sub-zero}
 use lib.Seq.{take-at, drop-at, length-take-le}
 use Rattle.base.specs.Choice.{pick}
 use Rattle.base.proofs.Tests.{every-skip, every-here, le-yes, le-no}
-use Rattle.rules.specs.Table.{State, Outcome, state}
+use Rattle.rules.specs.Table.{State, state}
 use Rattle.rules.specs.Check.{sizeOk}
 use Rattle.rules.specs.Fresh.{fresh, freshLast, freshState, freshRecord}
 use Rattle.rules.specs.declared.Record.{Record}

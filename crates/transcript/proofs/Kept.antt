@@ -8,13 +8,11 @@ use borrow.Author.Tests.{leb-true, leb-false, ne-eqb}
 use lib.ListN.{length, take}
 use lib.Seq.{take-all, take-take, take-append-le, length-take-le}
 use lib.Dec.{leb, eqb}
-use Rattle.base.specs.Choice.{pick}
 use Rattle.base.proofs.Tests.{pick-yes, lt-yes}
 use Rattle.rules.specs.Table.{State}
-use Rattle.text.specs.declared.Said.{Said}
 use Rattle.text.specs.declared.Said.the-variants.{Unreadable}
 use Rattle.text.specs.Grammar.{read}
-use Rattle.transcript.specs.Transcript.{newline, later, answers}
+use Rattle.transcript.specs.Transcript.{answers}
 
 pub long : (w : List ℕ) → 80 < length w → Unreadable ≡ read w
 unfolding read

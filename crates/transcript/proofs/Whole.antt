@@ -1,19 +1,19 @@
 -- What is fed and finished prints the transcript.
-use Prim.Native.Nat.{ℕ, suc, _+_, _-_, _<_, _≤_}
+use Prim.Native.Nat.{ℕ, suc, _+_, _-_, _≤_}
 use mathlib.Core.Bool.{Bool, true, false}
-use mathlib.Core.Path.{_≡_, refl, sym, ap, subst, _∙_}
+use mathlib.Core.Path.{_≡_, refl, sym, ap, _∙_}
 use mathlib.Core.List.{List, [], _∷_, _++_, append-assoc, append-nil}
 use native.Mathlib.Omega.{arith}
 use native.Mathlib.Nat.{sub-self}
-use borrow.Author.Tests.{leb-true, eqb-true, ltb-true, ltb-false}
-use lib.ListN.{length, take, drop}
+use borrow.Author.Tests.{leb-true, ltb-true, ltb-false}
+use lib.ListN.{length, drop}
 use lib.Seq.{length-take-le, take-at, drop-nil, drop-drop}
 use lib.Dec.{leb, eqb, ltb}
 use Rattle.base.specs.Choice.{pick}
 use Rattle.base.proofs.Tests.{split}
 use Rattle.rules.specs.Table.{State}
 use Rattle.text.specs.Grammar.{read}
-use Rattle.text.specs.Answers.{said, Written, written, contents, put, putAll}
+use Rattle.text.specs.Answers.{Written, contents, put}
 use Rattle.text.proofs.Outputs.{Longer, put-full, put-longer, longer, said-short}
 use Rattle.transcript.specs.Transcript.{newline, later, printed, answers}
 use Rattle.transcript.specs.Feeding.{Going, Taken, taken, ended, nextByte, finished, feed}

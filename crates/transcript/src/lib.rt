@@ -13,7 +13,7 @@ ghost use Rattle.rules.specs.Table.{state, outcome};
 ghost use Rattle.rules.specs.Fresh.{fresh};
 ghost use Rattle.rules.specs.Schedules.{ran, schedule, collects};
 ghost use Rattle.text.specs.Grammar.{read};
-ghost use Rattle.transcript.specs.Transcript.{Line, prints, answered, position, startOf, collected, later, noTable, first};
+ghost use Rattle.transcript.specs.Transcript.{prints, answered, position, startOf, collected, later, noTable, first};
 ghost use Rattle.transcript.specs.Feeding.{going, ended, finished, fed, feed, newlineFrom, nextLine, Rest, Begun};
 
 // What a line prints, and the record that it leaves.

@@ -2,11 +2,11 @@
 use Prim.Native.Nat.{ℕ, _≤_}
 use mathlib.Core.Bool.{Bool, true, false}
 use mathlib.Core.List.{List}
-use mathlib.Core.Path.{_≡_, refl, sym, subst}
+use mathlib.Core.Path.{_≡_, sym, subst}
 use lib.Dec.{eqb}
 use borrow.Author.Tests.{leb-true}
 use Rattle.base.specs.Choice.{pick}
-use Rattle.base.proofs.Tests.{each, facts, tests, every-skip, every-last}
+use Rattle.base.proofs.Tests.{each, facts, tests}
 use Rattle.rules.specs.declared.Record.{Record}
 use Rattle.rules.specs.declared.Phase.{Phase}
 use Rattle.rules.specs.declared.Phase.the-variants.{Roots, Scan, Left, Right, Black, Append}

@@ -1,6 +1,5 @@
-use Prim.Native.Nat.{_-_}
 use mathlib.Core.Path.{sym}
-use mathlib.Core.Bool.{true, false, false≢true}
+use mathlib.Core.Bool.{false≢true}
 use native.Mathlib.Omega.{arith}
 use borrow.Author.Needs.{needs}
 use Rattle.base.proofs.Tests.{not-no}
