@@ -1,4 +1,4 @@
-// The schedule program without its reading and writing: each line's answer, and the input fed byte by byte. The transcript's definition is in specs/.
+// The schedule program without its reading and writing: each line's answer, and the input fed line by line. The transcript's definition is in specs/.
 use rules::Made;
 use rules::Owed;
 use rules::Phase;
