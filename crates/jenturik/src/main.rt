@@ -1,6 +1,6 @@
-// The schedule program: standard input to standard output, in blocks of 64 KiB. What it prints is defined and proved in crate transcript.
+// The schedule program: standard input to standard output, in blocks of 64 KiB. What it prints is defined and proved in crates lines and transcript.
+use lines::Told;
 use transcript::Run;
-use transcript::Told;
 ghost use Prim.Native.Nat.{_≤_};
 
 // Whether the input goes on, and where it led.

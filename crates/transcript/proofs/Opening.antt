@@ -12,7 +12,8 @@ use Rattle.base.specs.Choice.{pick}
 use Rattle.base.proofs.Tests.{split}
 use Rattle.text.specs.declared.Said.the-variants.{Unreadable}
 use Rattle.text.specs.Grammar.{read}
-use Rattle.transcript.specs.Transcript.{Line, newline, printed, first, answers, opening, transcript}
+use Rattle.lines.specs.Lines.{Line, first}
+use Rattle.transcript.specs.Transcript.{newline, printed, answers, opening, transcript}
 use Rattle.transcript.specs.Feeding.{newlineFrom}
 use Rattle.transcript.proofs.Kept.{long}
 use Rattle.transcript.proofs.Feeds.{behind}

@@ -15,7 +15,8 @@ use Rattle.rules.specs.Table.{State}
 use Rattle.text.specs.Grammar.{read}
 use Rattle.text.specs.Answers.{Written, contents, put}
 use Rattle.text.proofs.Outputs.{Longer, put-full, put-longer, longer, said-short}
-use Rattle.transcript.specs.Transcript.{newline, later, printed, answers}
+use Rattle.lines.specs.Lines.{later}
+use Rattle.transcript.specs.Transcript.{newline, printed, answers}
 use Rattle.transcript.specs.Feeding.{Going, Taken, taken, ended, nextByte, finished, feed}
 use Rattle.transcript.proofs.Kept.{kept}
 use Rattle.transcript.proofs.Feeds.{least}

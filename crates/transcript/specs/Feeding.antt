@@ -7,9 +7,8 @@ use lib.Dec.{ltb, leb, eqb}
 use Rattle.rules.specs.Table.{State, state}
 use Rattle.text.specs.Grammar.{read}
 use Rattle.text.specs.Answers.{Written, written, contents, put, putAll}
-use mathlib.Core.Path.{_≡_}
-use Rattle.transcript.specs.declared.Told.{Told}
-use Rattle.transcript.specs.Transcript.{Line, later, printed, newline}
+use Rattle.transcript.specs.Transcript.{printed, newline}
+use Rattle.lines.specs.Lines.{later}
 use Rattle.transcript.specs.declared.Run.{Run}
 use Rattle.transcript.specs.declared.Fed.{Fed}
 
@@ -49,18 +48,6 @@ fed f l r c line out = taken (f .next) (going (f .run) l r c line out)
 unfoldable pub feed : List ℕ → ℕ → Going → Taken
 feed [] i g = taken i g
 feed (b ∷ input) i g = pick (leb (g .out .used) 65514) (feed input (i + 1) (nextByte g b)) (taken i g)
-
--- the entries from m on are as they were
-abbrev pub Rest : ℕ → List ℕ → List ℕ → List ℕ → List ℕ → List ℕ → List ℕ → Type 0
-Rest m l r c l₀ r₀ c₀ = (drop m l ≡ drop m l₀) × (drop m r ≡ drop m r₀) × (drop m c ≡ drop m c₀)
-
--- a first line's answer, and the table in the first entries of the program's own, which held l₀, r₀ and c₀; where the line is refused the record's M is 0, so that all are as they were
-pub record Begun (t : Told) (l r c l₀ r₀ c₀ : List ℕ) (line : Line) : Type 0 where
-  pub code : t .code ≡ line .code
-  pub node : t .node ≡ line .node
-  pub rec : t .rec ≡ line .state .rec
-  pub table : t .code ≡ 0 → state (take (t .rec .m) l) (take (t .rec .m) r) (take (t .rec .m) c) (t .rec) ≡ line .state
-  pub rest : Rest (t .rec .m) l r c l₀ r₀ c₀
 
 -- the position of the first newline, from position i on; past the input's end where there is none
 unfoldable pub newlineFrom : List ℕ → ℕ → ℕ

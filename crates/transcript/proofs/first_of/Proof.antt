@@ -2,7 +2,7 @@ use Prim.Native.Nat.{_-_}
 use lib.Seq.{take-all}
 use native.Mathlib.Nat.{sub-zero}
 use borrow.Author.Needs.{needs}
-use Rattle.transcript.specs.Transcript.{first}
+use Rattle.lines.specs.Lines.{first}
 use Rattle.transcript.proofs.first_of.Statement.{statement}
 use Rattle.transcript.proofs.first_of.Tie as tie
 

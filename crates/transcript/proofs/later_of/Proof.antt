@@ -2,7 +2,7 @@ use Prim.Native.Nat.{_-_}
 use lib.Seq.{take-all}
 use native.Mathlib.Nat.{sub-zero}
 use borrow.Author.Needs.{needs}
-use Rattle.transcript.specs.Transcript.{later}
+use Rattle.lines.specs.Lines.{later}
 use Rattle.transcript.proofs.later_of.Statement.{statement}
 use Rattle.transcript.proofs.later_of.Tie as tie
 

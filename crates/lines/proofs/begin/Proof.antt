@@ -1,9 +1,9 @@
 use Prim.Native.Nat.{_-_}
 use native.Mathlib.Omega.{arith}
 use borrow.Author.Needs.{needs}
-use Rattle.transcript.proofs.Firsts.{too-large, begun}
-use Rattle.transcript.proofs.begin.Statement.{statement}
-use Rattle.transcript.proofs.begin.Tie as tie
+use Rattle.lines.proofs.Firsts.{too-large, begun}
+use Rattle.lines.proofs.begin.Statement.{statement}
+use Rattle.lines.proofs.begin.Tie as tie
 
 refused-requires : tie.Need-refused-requires
 refused-requires c κs = search needs

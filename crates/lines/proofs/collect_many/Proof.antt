@@ -1,6 +1,6 @@
 use borrow.Author.Needs.{needs}
-use Rattle.transcript.proofs.collect_many.Statement.{statement}
-use Rattle.transcript.proofs.collect_many.Tie as tie
+use Rattle.lines.proofs.collect_many.Statement.{statement}
+use Rattle.lines.proofs.collect_many.Tie as tie
 
 collect-many-requires : tie.Need-collect-many-requires
 collect-many-requires c κs = search needs

@@ -5,11 +5,11 @@ use lib.Seq.{length-take-le}
 use native.Mathlib.Omega.{arith}
 use native.Mathlib.Nat.{sub-zero}
 use borrow.Author.Needs.{needs}
-use Rattle.transcript.specs.Transcript.{answered}
-use Rattle.transcript.proofs.Collects.{last}
-use Rattle.transcript.proofs.Firsts.{front, back}
-use Rattle.transcript.proofs.start.Statement.{statement}
-use Rattle.transcript.proofs.start.Tie as tie
+use Rattle.lines.specs.Lines.{answered}
+use Rattle.lines.proofs.Collects.{last}
+use Rattle.lines.proofs.Firsts.{front, back}
+use Rattle.lines.proofs.start.Statement.{statement}
+use Rattle.lines.proofs.start.Tie as tie
 
 sub-fresh : tie.Need-sub-fresh
 sub-fresh c = search needs

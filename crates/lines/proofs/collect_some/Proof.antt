@@ -1,10 +1,10 @@
 use Prim.Native.Nat.{_-_}
 use native.Mathlib.Omega.{arith}
 use borrow.Author.Needs.{needs}
-use Rattle.transcript.specs.Transcript.{position}
-use Rattle.transcript.proofs.Collects.{most, stopped, last}
-use Rattle.transcript.proofs.collect_some.Statement.{statement}
-use Rattle.transcript.proofs.collect_some.Tie as tie
+use Rattle.lines.specs.Lines.{position}
+use Rattle.lines.proofs.Collects.{most, stopped, last}
+use Rattle.lines.proofs.collect_some.Statement.{statement}
+use Rattle.lines.proofs.collect_some.Tie as tie
 
 sub-collect-many : tie.Need-sub-collect-many
 sub-collect-many c = search needs

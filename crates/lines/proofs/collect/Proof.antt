@@ -1,8 +1,8 @@
 use Prim.Native.Nat.{_-_}
 use borrow.Author.Needs.{needs}
-use Rattle.transcript.proofs.Collects.{nothing}
-use Rattle.transcript.proofs.collect.Statement.{statement}
-use Rattle.transcript.proofs.collect.Tie as tie
+use Rattle.lines.proofs.Collects.{nothing}
+use Rattle.lines.proofs.collect.Statement.{statement}
+use Rattle.lines.proofs.collect.Tie as tie
 
 collect-some-requires : tie.Need-collect-some-requires
 collect-some-requires c κs = search needs

@@ -1,9 +1,9 @@
 use Prim.Native.Nat.{_-_}
 use borrow.Author.Needs.{needs}
 use Rattle.base.proofs.Tests.{tests}
-use Rattle.transcript.specs.Transcript.{startOf}
-use Rattle.transcript.proofs.start_of.Statement.{statement}
-use Rattle.transcript.proofs.start_of.Tie as tie
+use Rattle.lines.specs.Lines.{startOf}
+use Rattle.lines.proofs.start_of.Statement.{statement}
+use Rattle.lines.proofs.start_of.Tie as tie
 
 returns : tie.Need-returns
 unfolding startOf

@@ -1,7 +1,7 @@
 use Prim.Native.Nat.{_-_}
 use borrow.Author.Needs.{needs}
-use Rattle.transcript.proofs.answered.Statement.{statement}
-use Rattle.transcript.proofs.answered.Tie as tie
+use Rattle.lines.proofs.answered.Statement.{statement}
+use Rattle.lines.proofs.answered.Tie as tie
 
 code-requires : tie.Need-code-requires
 code-requires c κs = search needs

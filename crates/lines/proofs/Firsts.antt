@@ -15,9 +15,9 @@ use Rattle.rules.specs.Fresh.{fresh, freshLast, freshState, freshRecord}
 use Rattle.rules.specs.declared.Record.{Record}
 use Rattle.rules.specs.declared.Answer.the-variants.{Started, Refused}
 use Rattle.text.specs.declared.Said.the-variants.{First}
-use Rattle.transcript.specs.Transcript.{Line, prints, answered, noTable, first}
-use Rattle.transcript.specs.Feeding.{Rest, Begun}
-use Rattle.transcript.specs.declared.Told.{Told}
+use Rattle.lines.specs.Lines.{Line, prints, answered, noTable, first}
+use Rattle.lines.specs.Lines.{Rest, Begun}
+use Rattle.lines.specs.declared.Told.{Told}
 
 pub front : (l r c l′ r′ c′ : List ℕ) (x : Record) (m code node : ℕ) (o : Line) → length l ≡ m → length r ≡ m → length c ≡ m
     → prints code node (state l r c x) ≡ o → prints code node (state (take m (l ++ l′)) (take m (r ++ r′)) (take m (c ++ c′)) x) ≡ o

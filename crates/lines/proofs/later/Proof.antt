@@ -1,8 +1,8 @@
 use Prim.Native.Nat.{_-_}
 use borrow.Author.Needs.{needs}
-use Rattle.transcript.specs.Transcript.{answered, later}
-use Rattle.transcript.proofs.later.Statement.{statement}
-use Rattle.transcript.proofs.later.Tie as tie
+use Rattle.lines.specs.Lines.{answered, later}
+use Rattle.lines.proofs.later.Statement.{statement}
+use Rattle.lines.proofs.later.Tie as tie
 
 read-requires : tie.Need-read-requires
 read-requires c κs = search needs

@@ -2,10 +2,10 @@ use Prim.Native.Nat.{_-_}
 use mathlib.Core.Path.{refl}
 use native.Mathlib.Omega.{arith}
 use borrow.Author.Needs.{needs}
-use Rattle.transcript.specs.Transcript.{first}
-use Rattle.transcript.proofs.Firsts.{fails}
-use Rattle.transcript.proofs.first.Statement.{statement}
-use Rattle.transcript.proofs.first.Tie as tie
+use Rattle.lines.specs.Lines.{first}
+use Rattle.lines.proofs.Firsts.{fails}
+use Rattle.lines.proofs.first.Statement.{statement}
+use Rattle.lines.proofs.first.Tie as tie
 
 read-requires : tie.Need-read-requires
 read-requires c κs = search needs
