@@ -34,7 +34,7 @@ static uint8_t clear[NODES];
 
 static unsigned taken, refused;
 
-/* Places: where to find a node. A slot, a number of turns, and the turns as bits, the first lowest: 0 left, 1 right. */
+/* Places: where to find a node. A slot, a number of turns, and the turns as bits, the first lowest: 0 left, 1 right. Each is three arguments. */
 #define PANE(p) (p), 0, 0  /* the pane's own node */
 #define GLASS(p) (p), 1, 0 /* one turn left: the pane's outermost layer */
 #define NOTHING BARE, 1, 0
@@ -48,7 +48,7 @@ static uint32_t below(uint32_t n) {
 
 static void stop(const char *call, uint32_t code, uint32_t node) {
     const char *why = code == JENTURIK_BAD_SIZE || code == JENTURIK_BAD_RECORD || code == JENTURIK_DAMAGED
-                          ? "something else has written into the table" /* these three cannot come otherwise */
+                          ? "something else has written into the table" /* once there is a table, these three cannot come otherwise */
                           : "the viewer asked for what it must not";
     fprintf(stderr, "viewer: %s: code %u, node %u: %s\n", call, (unsigned)code, (unsigned)node, why);
     exit(1);
@@ -101,7 +101,7 @@ static struct edit arriving(void) {
 /* Makes an edit; answers 0 where it must wait for a free node. What it lets go needs no call: the collector finds it. */
 static int make(struct edit e) {
     switch (e.kind) {
-    case COAT: /* a new layer, on the bench first; then the old glass behind it, then all of it into the pane */
+    case COAT: /* a new layer, on the bench first; then the old glass behind it, then all of it into the pane; the bench lets it go at the next coat */
         if (!TAKE(PANE(BENCH), LEFT, e.light)) return 0;
         LINK(GLASS(BENCH), LEFT, GLASS(e.pane));
         LINK(PANE(e.pane), LEFT, GLASS(BENCH));
@@ -153,9 +153,9 @@ static unsigned count_free(void) {
 
 int main(void) {
     jenturik_told made = jenturik_fresh(TABLE, NODES, SLOTS);
-    if (made.code != JENTURIK_DONE) stop("fresh", made.code, made.node);
+    if (made.code != JENTURIK_DONE) return fputs("viewer: NODES or SLOTS is out of range\n", stderr), 1;
     printf("The lobby's glazing: %d panes, %d nodes, %d collector steps a frame.\n", PANES, NODES, BUDGET);
-    puts("Nodes in use are those that the last marking reached, free ones among them.");
+    puts("Marked are the nodes that the last cycle's marking reached, free ones among them.");
     for (int frame = 1; frame <= SECONDS * FRAMES; frame++) {
         int second = (frame - 1) / FRAMES + 1;
         if (frame == 4 * FRAMES + 1) puts("The client comes at six: both designers try every look that they have.");
@@ -165,7 +165,7 @@ int main(void) {
         if (steps.code != JENTURIK_DONE) stop("collect_many", steps.code, steps.node);
         unsigned light = draw();
         if (frame % FRAMES == 0)
-            printf("second %2d: frame %3d, %3u in use, %3u free, %3u cycles, %4u taken, %3u refused, light %2u%%\n", second, frame,
+            printf("second %2d: frame %3d, %3u marked, %3u free, %3u cycles, %4u taken, %3u refused, light %2u%%\n", second, frame,
                    (unsigned)words[JENTURIK_IN_USE], count_free(), (unsigned)words[JENTURIK_CYCLES], taken, refused, light);
     }
     return 0;
