@@ -27,10 +27,10 @@
  *
  * A refused call has a code above 0 and changes nothing, neither in the arrays nor in the words (jenturik_fresh apart, which writes the words
  * whatever it answers; of a schedule and of many steps it is the refused step that changes nothing). Words that are no record's are refused with code
- * 2, before anything else is judged. Where jenturik_fresh made the table, nothing but these calls has written to it since, and it is handed over with
- * its own lengths, codes 1, 2 and 7 do not come, and no collector step is refused. After code 9 make collector steps and try again; if 3 * B steps (below) do not help,
- * nothing was garbage, and the table is full. Of several reasons for a refusal the first is told: 1, 2, 10, 3, 4, 5 or 6, then 7 and 8 on the way to the
- * places, then 9.
+ * 2, before anything else is judged. Of several reasons the first is told: 1, 2, 10, 3, 4, 5 or 6, then 7 and 8 on the way to the places, then 9.
+ * Where jenturik_fresh made the table, nothing but these calls has written to it since, and it is handed over with its own lengths, codes 1, 2 and 7 do
+ * not come, and no collector step is refused. After code 9 make collector steps and try again; where 3 * B of them (below) do not help, nothing was
+ * garbage, and the table is full.
  *
  * How many collector steps: with B = M * M + 5 * M + R + 2, a cycle takes at most B, and a node that no slot leads to is free again after at most
  * 3 * B, however busy the program is; most often both come much sooner.

@@ -6,10 +6,9 @@ use lib.ListN.{replicate}
 use lib.Dec.{eqb}
 use Rattle.rules.specs.Table.{State, Outcome, state}
 use Rattle.rules.specs.Fresh.{fresh, freshRecord}
+use Rattle.rules.specs.Records.{position}
 use Rattle.rules.specs.Steps.{step, codeOf, nodeOf}
 use Rattle.rules.specs.Schedules.{schedule, collects}
-use Rattle.rules.specs.declared.Phase.{Phase}
-use Rattle.rules.specs.declared.Phase.the-variants.{Roots, Scan, Left, Right, Black, Append}
 use Rattle.text.specs.declared.Said.{Said}
 use Rattle.text.specs.declared.Said.the-variants.{First, Do, Collect, Unreadable}
 use mathlib.Core.Path.{_≡_}
@@ -28,14 +27,6 @@ prints code node s = record { code = code; node = node; state = s }
 -- "`node` is: for the first line, last; take, the node taken; link, the target; shade, the node shaded; look, the node named"
 abbrev pub answered : Outcome → Line
 answered o = prints (codeOf (o .answer)) (nodeOf (o .answer)) (o .state)
-
-abbrev pub position : Phase → ℕ
-position (Roots i) = i
-position (Scan i k) = i
-position (Left i) = i
-position (Right i) = i
-position (Black i) = i
-position (Append i) = i
 
 -- "0 if none was made"
 unfoldable pub startOf : ℕ → ℕ → ℕ

@@ -13,7 +13,7 @@ ghost use Rattle.rules.specs.Table.{state, outcome};
 ghost use Rattle.rules.specs.Fresh.{fresh};
 ghost use Rattle.rules.specs.Schedules.{ran, schedule, collects};
 ghost use Rattle.text.specs.Grammar.{read};
-ghost use Rattle.lines.specs.Lines.{prints, answered, position, startOf, collected, later, noTable, first, Rest, Begun};
+ghost use Rattle.lines.specs.Lines.{prints, answered, startOf, collected, later, noTable, first, Rest, Begun};
 
 // What a line prints, and the record that it leaves.
 pub struct Told {
@@ -31,19 +31,6 @@ fn answered(d: Made) -> Told
         code: answer.code(),
         node: answer.node(),
         rec,
-    }
-}
-
-fn position(phase: Phase) -> u16
-    ensures { λ i. ⌜ i ≡ position phase ⌝ }
-{
-    match phase {
-        Phase::Roots(i) => i,
-        Phase::Scan(i, _) => i,
-        Phase::Left(i) => i,
-        Phase::Right(i) => i,
-        Phase::Black(i) => i,
-        Phase::Append(i) => i,
     }
 }
 
@@ -78,7 +65,7 @@ fn collect_some(left: &mut [u16], right: &mut [u16], colour: &mut [u8], x: Recor
     let most = collect_many(left, right, colour, x, (n - 1) as usize);
     let rec = most.rec;
     let phase = rec.phase;
-    let i = position(phase);
+    let i = rules::position(phase);
     if most.code != 0 {
         return Told {
             code: most.code,

@@ -12,12 +12,11 @@ use Rattle.rules.specs.Fresh.{tabulate, nextFree, freshLeft, freshLast, freshSt
 use Rattle.rules.specs.Places.{turnsOk, placeCode, walkFrom, arrive}
 use Rattle.rules.specs.Editor.{sideCode, owedCode, look, depart, linkTo, link, pay, shadeOwed, badFree, relink, takeNext, takeFirst, take}
 use Rattle.rules.specs.Collector.{shadeStep, afterRoots, scanStep, edgeStep, blackStep, append, appendWhite, appendStep, phaseStep, collect}
+use Rattle.rules.specs.Records.{position}
 use Rattle.rules.specs.Steps.{step, run, taking, linking, shading, collecting, looking, codeOf, nodeOf}
 use Rattle.rules.specs.Schedules.{collects}
 use Rattle.rules.specs.declared.Place.{Place}
 use Rattle.rules.specs.declared.Step.{Step}
-use Rattle.rules.specs.declared.Phase.{Phase}
-use Rattle.rules.specs.declared.Phase.the-variants.{Roots, Scan, Left, Right, Black, Append}
 use Rattle.rules.specs.declared.Answer.{Answer}
 use Rattle.rules.specs.declared.Answer.the-variants.{Started, Named, Linked, Taken, Shaded, Looked, Blackened, Whitened, Appended, Refused}
 
@@ -75,14 +74,6 @@ appended (Appended n) = n
 appended (Refused code n) = 0
 
 -- the position's i
-abbrev position : Phase → ℕ
-position (Roots i) = i
-position (Scan i k) = i
-position (Left i) = i
-position (Right i) = i
-position (Black i) = i
-position (Append i) = i
-
 pub record Figure : Type 0 where
   pub computed : List (List ℕ)
   pub told : List (List ℕ)

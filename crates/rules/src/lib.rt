@@ -2,7 +2,7 @@
 
 ghost use mathlib.Core.Path.{_≡_};
 ghost use Prim.Native.Nat.{_+_, _*_, _<_, _≤_};
-ghost use Rattle.rules.specs.Records.{withPhase, withOwed, withLast, owing, paid, moved, marked, rescan, oneMore, closed, afterAppend};
+ghost use Rattle.rules.specs.Records.{position, withPhase, withOwed, withLast, owing, paid, moved, marked, rescan, oneMore, closed, afterAppend};
 ghost use Rattle.rules.specs.Check.{sizeOk, phaseOk, owedOk, lastOk, bound, countsOk, recordOk, checkOf};
 ghost use Rattle.rules.specs.Steps.{codeOf, nodeOf};
 
@@ -221,6 +221,20 @@ pub fn check(lefts: usize, rights: usize, colours: usize, x: Record) -> u8
         return 2;
     }
     0
+}
+
+// The position that a phase carries: its i.
+pub fn position(phase: Phase) -> u16
+    ensures { λ i. ⌜ i ≡ position phase ⌝ }
+{
+    match phase {
+        Phase::Roots(i) => i,
+        Phase::Scan(i, _) => i,
+        Phase::Left(i) => i,
+        Phase::Right(i) => i,
+        Phase::Black(i) => i,
+        Phase::Append(i) => i,
+    }
 }
 
 fn one_more(n: u32) -> u32

@@ -10,14 +10,15 @@ use lib.Seq.{drop-cons}
 use borrow.Author.Tests.{eqb-true, eqb-false, leb-true}
 use Rattle.base.specs.Choice.{pick}
 use Rattle.base.proofs.Tests.{each, facts, split}
+use Rattle.rules.specs.Records.{position}
 use Rattle.rules.specs.declared.Record.{Record}
 use Rattle.rules.specs.declared.Phase.{Phase}
 use Rattle.rules.specs.declared.Phase.the-variants.{Roots, Scan, Left, Right, Black, Append}
 use Rattle.rules.specs.declared.Owed.{Owed}
 use Rattle.rules.specs.declared.Owed.the-variants.{Nothing, Node}
-use Rattle.words.specs.Words.{word, small, tagOf, iOf, kOf, owesOf, owedOf, wordsOf, phaseOf, shadeOf, recordOf, phaseWords, owedWords, unusedWords, isRecord}
+use Rattle.words.specs.Words.{word, small, tagOf, kOf, owesOf, owedOf, wordsOf, phaseOf, shadeOf, recordOf, phaseWords, owedWords, unusedWords, isRecord}
 
-phase-back : (p : Phase) → phaseOf (tagOf p) (iOf p) (kOf p) ≡ p
+phase-back : (p : Phase) → phaseOf (tagOf p) (position p) (kOf p) ≡ p
 unfolding phaseOf pick
 phase-back (Roots i) = refl
 phase-back (Scan i k) = refl
@@ -38,7 +39,7 @@ record-back x = rw (phase-back (x .phase), owed-back (x .owed))
 -- the words of a phase and of a shade that are read from words
 pub record SamePhase (tag i k : ℕ) (p : Phase) : Type 0 where
   pub tag-is : tagOf p ≡ tag
-  pub i-is : iOf p ≡ i
+  pub i-is : position p ≡ i
   pub k-is : kOf p ≡ k
 
 -- a number that is judged by whether a flag is given, where it is not
@@ -59,7 +60,7 @@ module _ (tag i k : ℕ) (e : true ≡ phaseWords tag i k) where
   unfolding phaseWords
   no-k h = none-given tag k h (each _ e .1 .1 .0)
 
-  same : (p : Phase) → tagOf p ≡ tag → iOf p ≡ i → kOf p ≡ k → SamePhase tag i k p
+  same : (p : Phase) → tagOf p ≡ tag → position p ≡ i → kOf p ≡ k → SamePhase tag i k p
   same p a b c = record { tag-is = a; i-is = b; k-is = c }
 
   pub phase-there : SamePhase tag i k (phaseOf tag i k)

@@ -7,12 +7,13 @@ use lib.Dec.{eqb}
 use borrow.Author.Tests.{leb-true}
 use Rattle.base.specs.Choice.{pick}
 use Rattle.base.proofs.Tests.{each, facts, tests}
+use Rattle.rules.specs.Records.{position}
 use Rattle.rules.specs.declared.Record.{Record}
 use Rattle.rules.specs.declared.Phase.{Phase}
 use Rattle.rules.specs.declared.Phase.the-variants.{Roots, Scan, Left, Right, Black, Append}
 use Rattle.rules.specs.declared.Owed.{Owed}
 use Rattle.rules.specs.declared.Owed.the-variants.{Nothing, Node}
-use Rattle.words.specs.Words.{word, small, tagOf, iOf, kOf, owesOf, owedOf, wordsOf, phaseWords, owedWords, unusedWords, nodeWords, isRecord}
+use Rattle.words.specs.Words.{word, small, tagOf, kOf, owesOf, owedOf, wordsOf, phaseWords, owedWords, unusedWords, nodeWords, isRecord}
 
 -- the word is small whichever way it is judged
 either : (b : Bool) (n : ℕ) → pick b (small n) (eqb n 0) ≡ true → n ≤ 65535
@@ -42,7 +43,7 @@ widths w e =
     omega facts
 
 -- and the other way round: a record whose numbers have their widths has a record's words
-phase-small : (p : Phase) → iOf p ≤ 65535 → kOf p ≤ 65535 → true ≡ phaseWords (tagOf p) (iOf p) (kOf p)
+phase-small : (p : Phase) → position p ≤ 65535 → kOf p ≤ 65535 → true ≡ phaseWords (tagOf p) (position p) (kOf p)
 unfolding phaseWords
 phase-small (Roots i) a b = search tests depth 12
 phase-small (Scan i k) a b = search tests depth 12
@@ -56,7 +57,7 @@ unfolding owedWords
 owed-small Nothing a = search tests depth 12
 owed-small (Node n) a = search tests depth 12
 
-pub words-are : (x : Record) (w : List ℕ) → w ≡ wordsOf x → x .m ≤ 65535 → x .r ≤ 65535 → iOf (x .phase) ≤ 65535 → kOf (x .phase) ≤ 65535 → owedOf (x .owed) ≤ 65535
+pub words-are : (x : Record) (w : List ℕ) → w ≡ wordsOf x → x .m ≤ 65535 → x .r ≤ 65535 → position (x .phase) ≤ 65535 → kOf (x .phase) ≤ 65535 → owedOf (x .owed) ≤ 65535
     → x .last ≤ 65535 → x .blackened ≤ 65535 → x .inuse ≤ 65535 → (w ≡ wordsOf x) × (true ≡ isRecord w)
 unfolding isRecord unusedWords nodeWords
 words-are x w q a b c d e f g h =

@@ -5,6 +5,7 @@ use mathlib.Core.Bool.{Bool}
 use mathlib.Core.List.{List, [], _∷_}
 use lib.Dec.{leb, eqb}
 use lib.ListN.{length, getD}
+use Rattle.rules.specs.Records.{position}
 use Rattle.rules.specs.declared.Record.{Record}
 use Rattle.rules.specs.declared.Phase.{Phase}
 use Rattle.rules.specs.declared.Phase.the-variants.{Roots, Scan, Left, Right, Black, Append}
@@ -14,7 +15,7 @@ use Rattle.rules.specs.declared.Owed.the-variants.{Nothing, Node}
 abbrev pub word : List ℕ → ℕ → ℕ
 word w n = getD w n 0
 
--- which phase it is, its i, and its k: 0 but in Scan
+-- which phase it is, and its k: 0 but in Scan
 abbrev pub tagOf : Phase → ℕ
 tagOf (Roots i) = 0
 tagOf (Scan i k) = 1
@@ -22,14 +23,6 @@ tagOf (Left i) = 2
 tagOf (Right i) = 3
 tagOf (Black i) = 4
 tagOf (Append i) = 5
-
-abbrev pub iOf : Phase → ℕ
-iOf (Roots i) = i
-iOf (Scan i k) = i
-iOf (Left i) = i
-iOf (Right i) = i
-iOf (Black i) = i
-iOf (Append i) = i
 
 abbrev pub kOf : Phase → ℕ
 kOf (Roots i) = 0
@@ -50,7 +43,7 @@ owedOf (Node n) = n
 
 abbrev pub wordsOf : Record → List ℕ
 wordsOf x =
-    x .m ∷ x .r ∷ tagOf (x .phase) ∷ iOf (x .phase) ∷ kOf (x .phase) ∷ owesOf (x .owed) ∷ owedOf (x .owed) ∷ x .last ∷ x .steps ∷ x .cycles ∷ x .took ∷ x .blackened ∷ x .inuse ∷ 0 ∷ 0 ∷ 0 ∷ []
+    x .m ∷ x .r ∷ tagOf (x .phase) ∷ position (x .phase) ∷ kOf (x .phase) ∷ owesOf (x .owed) ∷ owedOf (x .owed) ∷ x .last ∷ x .steps ∷ x .cycles ∷ x .took ∷ x .blackened ∷ x .inuse ∷ 0 ∷ 0 ∷ 0 ∷ []
 
 unfoldable pub phaseOf : ℕ → ℕ → ℕ → Phase
 phaseOf tag i k =

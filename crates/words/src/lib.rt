@@ -4,7 +4,7 @@ use rules::Phase;
 use rules::Record;
 ghost use mathlib.Core.Path.{_≡_};
 ghost use mathlib.Core.Bool.{true};
-ghost use Rattle.words.specs.Words.{tagOf, iOf, kOf, owesOf, owedOf, wordsOf, phaseWords, owedWords, unusedWords, nodeWords, phaseOf, shadeOf, recordOf, isRecord};
+ghost use Rattle.words.specs.Words.{tagOf, kOf, owesOf, owedOf, wordsOf, phaseWords, owedWords, unusedWords, nodeWords, phaseOf, shadeOf, recordOf, isRecord};
 
 fn tag(p: Phase) -> u32
     ensures { λ n. ⌜ n ≡ tagOf p ⌝ }
@@ -16,19 +16,6 @@ fn tag(p: Phase) -> u32
         Phase::Right(_) => 3,
         Phase::Black(_) => 4,
         Phase::Append(_) => 5,
-    }
-}
-
-fn at(p: Phase) -> u16
-    ensures { λ n. ⌜ n ≡ iOf p ⌝ }
-{
-    match p {
-        Phase::Roots(i) => i,
-        Phase::Scan(i, _) => i,
-        Phase::Left(i) => i,
-        Phase::Right(i) => i,
-        Phase::Black(i) => i,
-        Phase::Append(i) => i,
     }
 }
 
@@ -73,7 +60,7 @@ pub fn words_of(x: Record) -> [u32; 16]
         x.m as u32,
         x.r as u32,
         tag(p),
-        at(p) as u32,
+        rules::position(p) as u32,
         rest(p) as u32,
         owes(o),
         owed(o) as u32,

@@ -1,7 +1,7 @@
 use Prim.Native.Nat.{_-_}
 use native.Mathlib.Omega.{arith}
 use borrow.Author.Needs.{needs}
-use Rattle.lines.specs.Lines.{position}
+use Rattle.rules.specs.Records.{position}
 use Rattle.lines.proofs.Collects.{most, stopped, last}
 use Rattle.lines.proofs.collect_some.Statement.{statement}
 use Rattle.lines.proofs.collect_some.Tie as tie

@@ -13,8 +13,8 @@ cast-t5 c = search needs
 tag-requires : tie.Need-tag-requires
 tag-requires c κs = search needs
 
-at-requires : tie.Need-at-requires
-at-requires c κs = search needs
+position-requires : tie.Need-position-requires
+position-requires c κs = search needs
 
 cast-t8 : tie.Need-cast-t8
 cast-t8 c = search needs
@@ -53,7 +53,7 @@ words-of-spec =
     cast-t4
     cast-t5
     tag-requires
-    at-requires
+    position-requires
     cast-t8
     rest-requires
     cast-t10
