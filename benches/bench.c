@@ -8,6 +8,13 @@
 
 #define MOST 4096
 
+/* Crate bench_steps: n single steps in a module of their own; how many were done. */
+extern size_t jenturik_steps(uint16_t *, size_t, uint16_t *, size_t, uint8_t *, size_t, uint32_t *, size_t);
+
+static size_t library_steps(const struct table *t, uint32_t *w, size_t n) {
+  return jenturik_steps(t->left, t->lefts, t->right, t->rights, t->colour, t->colours, w, n);
+}
+
 static uint16_t left[MOST], right[MOST];
 static uint8_t colour[MOST];
 static struct table table = {left, right, colour, 0, 0, 0};

@@ -1,14 +1,8 @@
-/* The library as C calls it here: include/jenturik.h, and crate bench_steps for single steps in a module of their own. */
+/* The library as C calls it here, over benches/plain.h's tables and records. */
 #ifndef LIBRARY_H
 #define LIBRARY_H
 #include "../include/jenturik.h"
 #include "plain.h"
-
-extern size_t jenturik_steps(uint16_t *, size_t, uint16_t *, size_t, uint8_t *, size_t, uint32_t *, size_t);
-
-static inline size_t library_steps(const struct table *t, uint32_t *w, size_t n) {
-  return jenturik_steps(t->left, t->lefts, t->right, t->rights, t->colour, t->colours, w, n);
-}
 
 static inline jenturik_told library_collect(const struct table *t, uint32_t *w) {
   return jenturik_collect(t->left, t->lefts, t->right, t->rights, t->colour, t->colours, w);
