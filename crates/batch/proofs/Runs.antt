@@ -18,17 +18,17 @@ use Rattle.rules.proofs.Good.{good, inside}
 use Rattle.rules.proofs.Refused.{refused-stays}
 use Rattle.rules.proofs.Laws.{step-collecting, unless-refused}
 use Rattle.strides.specs.Leads.{lasted, more, Passes, Room, Leads, fineOk}
-use Rattle.strides.proofs.Steady.{Kept, kept, steps-below, passes-again, now-spoilt}
+use Rattle.strides.proofs.Steady.{count, Kept, kept, steps-below, passes-again, now-spoilt}
 use Rattle.strides.proofs.Strides.{step-is, done-on}
 use Rattle.batch.specs.Turns.{Turn}
 
 pub ready : (l k c : List ℕ) (y : Record) → Passes (state l k c y) → (Good (length l) (length k) (length c) y) × (Inside (y .m) (y .r) (y .phase))
-ready l k c y p = (good _ _ _ y (p .code), inside _ _ _ y (p .code))
+ready l k c y p = (good _ _ _ y (p .code), inside _ _ y (p .code))
 
-pub steps-in : (l k c : List ℕ) (x : Record) (b : ℕ) → Passes (state l k c x) → b ≡ bound (x .m) (x .r) → x .steps < b
-steps-in l k c x b p q = rw q (steps-below _ _ _ x (p .code))
+pub steps-in : (l k c : List ℕ) (x : Record) (b : ℕ) → Passes (state l k c x) → b ≡ bound 2 (x .m) (x .r) → x .steps < b
+steps-in l k c x b p q = rw q (steps-below _ _ x (p .code))
 
-pub room : (x : Record) (b cap : ℕ) → b ≡ bound (x .m) (x .r) → x .steps + cap < b → Room x cap
+pub room : (x : Record) (b cap : ℕ) → b ≡ bound 2 (x .m) (x .r) → x .steps + cap < b → Room x cap
 room x b cap q h = record { steps = rw (← q) h }
 
 -- a step that is refused ends the run, and changes nothing
@@ -36,12 +36,12 @@ refused-at : (s : State) (o : Outcome) (n e : ℕ) (a : Answer) → o ≡ step c
 unfolding more
 refused-at s o n e a w z = rw (← w) (sym (pick-no _ _ _ _ (eq-no _ _ z) refl))
 
-pub turned : (b : ℕ) (s t : State) (d : ℕ) (o : Outcome) → b ≡ bound (s .rec .m) (s .rec .r) → Leads s d t → o ≡ phaseStep t (t .rec .phase)
+pub turned : (b : ℕ) (s t : State) (d : ℕ) (o : Outcome) → b ≡ bound (count s) (s .rec .m) (s .rec .r) → Leads s d t → count t ≡ count s → o ≡ phaseStep t (t .rec .phase)
     → Turn b s d (o .answer) (o .state)
-turned b s t d o q p w =
+turned b s t d o q p j w =
     let k : Kept t o = rw w (kept t (p .passes .code)) in
     let v = w ∙ step-is t (p .passes) in
-    let u : b ≡ bound (t .rec .m) (t .rec .r) = rw (p .m, p .r) q in
+    let u : b ≡ bound (count t) (t .rec .m) (t .rec .r) = rw (p .m, p .r, j) q in
     record {
       m = k .rec .m ∙ p .m;
       r = k .rec .r ∙ p .r;

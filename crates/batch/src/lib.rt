@@ -48,7 +48,7 @@ fn turn(
     b: u32,
     most: usize,
 ) -> Many
-    requires { ⌜ (Passes (state (now left) (now right) (now colour) x)) × (b ≡ bound (x .m) (x .r)) ⌝ }
+    requires { ⌜ (Passes (state (now left) (now right) (now colour) x)) × (b ≡ bound 2 (x .m) (x .r)) ⌝ }
     ensures { λ r. ⌜ (r .done ≤ most) × Turn b (state (now (left .entry)) (now (right .entry)) (now (colour .entry)) x) (r .done) (r .answer) (state (now (left .exit)) (now (right .exit)) (now (colour .exit)) (r .rec)) ⌝ }
 {
     let near = b - 1 - x.steps;
@@ -84,7 +84,7 @@ fn turns(
     b: u32,
     n: usize,
 ) -> Many
-    requires { ⌜ (Passes (state (now left) (now right) (now colour) x)) × (b ≡ bound (x .m) (x .r)) ⌝ }
+    requires { ⌜ (Passes (state (now left) (now right) (now colour) x)) × (b ≡ bound 2 (x .m) (x .r)) ⌝ }
     ensures { λ r. ⌜ lasted (r .done) (r .answer) (state (now (left .exit)) (now (right .exit)) (now (colour .exit)) (r .rec)) ≡ more n 0 (Named 0) (state (now (left .entry)) (now (right .entry)) (now (colour .entry)) x) ⌝ }
 {
     let mut rec = x;

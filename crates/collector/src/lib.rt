@@ -7,7 +7,7 @@ ghost use mathlib.Core.Path.{_≡_};
 ghost use mathlib.Core.List.{List};
 ghost use Prim.Native.Nat.{ℕ, _<_, _≤_};
 ghost use lib.ListN.{length};
-ghost use Rattle.rules.specs.Table.{state, outcome};
+ghost use Rattle.rules.specs.Table.{table, state, handed, outcome};
 ghost use Rattle.rules.specs.Collector.{shadeStep, afterRoots, scanStep, edgeStep, blackStep, appendWhite, appendStep, phaseStep};
 ghost use Rattle.rules.specs.Steps.{step, collecting};
 ghost use Rattle.rules.specs.Facts.{Good, Inside};
@@ -15,7 +15,7 @@ ghost use Rattle.rules.specs.Facts.{Good, Inside};
 // Shades node n, and goes on to a phase.
 fn shade_step(colour: &mut [u8], x: Record, n: u16, then: Phase) -> Made
     requires { ⌜ (n < length (now colour)) × (x .steps < 20000000) ⌝ }
-    ensures { λ r. ⌜ ((l k : List ℕ) → outcome r l k (now (colour .exit)) ≡ shadeStep (state l k (now (colour .entry)) x) n then) ⌝ }
+    ensures { λ r. ⌜ ((es : List (List ℕ)) → handed r es (now (colour .exit)) ≡ shadeStep (table es (now (colour .entry)) x) n then) ⌝ }
 {
     let at = n as usize;
     if 2 < colour[at] {
@@ -45,7 +45,7 @@ fn after_roots(m: u16, r: u16, i: u16) -> Phase
 // Scan i, k: Left i where node i is gray, else on to the next node.
 fn scan_step(colour: &[u8], x: Record, i: u16, k: u16) -> Made
     requires { ⌜ (i < length (now colour)) × ((i < 4096) × ((x .steps < 20000000) × ((0 < x .m) × (0 < k)))) ⌝ }
-    ensures { λ r. ⌜ ((l e : List ℕ) → outcome r l e (now (colour .entry)) ≡ scanStep (state l e (now (colour .entry)) x) i k) ⌝ }
+    ensures { λ r. ⌜ ((es : List (List ℕ)) → handed r es (now (colour .entry)) ≡ scanStep (table es (now (colour .entry)) x) i k) ⌝ }
 {
     let at = i as usize;
     if 2 < colour[at] {
@@ -75,7 +75,7 @@ fn scan_step(colour: &[u8], x: Record, i: u16, k: u16) -> Made
 // Left i or Right i: shades e, that edge of node i, and goes on to a phase.
 fn edge_step(colour: &mut [u8], x: Record, i: u16, e: u16, then: Phase) -> Made
     requires { ⌜ (x .m ≤ length (now colour)) × (x .steps < 20000000) ⌝ }
-    ensures { λ r. ⌜ ((l k : List ℕ) → outcome r l k (now (colour .exit)) ≡ edgeStep (state l k (now (colour .entry)) x) i e then) ⌝ }
+    ensures { λ r. ⌜ ((es : List (List ℕ)) → handed r es (now (colour .exit)) ≡ edgeStep (table es (now (colour .entry)) x) i e then) ⌝ }
 {
     if table::bad_edge(x.m, e) {
         return Made {
@@ -89,7 +89,7 @@ fn edge_step(colour: &mut [u8], x: Record, i: u16, e: u16, then: Phase) -> Made
 // Black i: node i is black, and the scan begins again behind it.
 fn black_step(colour: &mut [u8], x: Record, i: u16) -> Made
     requires { ⌜ (i < length (now colour)) × ((i < 4096) × ((x .steps < 20000000) × ((0 < x .m) × (x .blackened ≤ 4096)))) ⌝ }
-    ensures { λ r. ⌜ ((l k : List ℕ) → outcome r l k (now (colour .exit)) ≡ blackStep (state l k (now (colour .entry)) x) i) ⌝ }
+    ensures { λ r. ⌜ ((es : List (List ℕ)) → handed r es (now (colour .exit)) ≡ blackStep (table es (now (colour .entry)) x) i) ⌝ }
 {
     let at = i as usize;
     colour[at] = 2;

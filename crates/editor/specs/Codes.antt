@@ -10,8 +10,8 @@ use Rattle.rules.specs.declared.Place.{Place}
 
 -- the refusals that read nothing of the table, in order
 unfoldable pub lookCode : ℕ → ℕ → ℕ → Record → Place → ℕ
-lookCode ll rl cl x p = first (checkOf ll rl cl x ∷ placeCode (x .r) p ∷ [])
+lookCode ll rl cl x p = first (checkOf (ll ∷ rl ∷ []) cl x ∷ placeCode 2 (x .r) p ∷ [])
 
 unfoldable pub linkCode : ℕ → ℕ → ℕ → Record → Place → ℕ → Place → ℕ
 linkCode ll rl cl x p side q =
-    first (checkOf ll rl cl x ∷ sideCode side ∷ placeCode (x .r) p ∷ placeCode (x .r) q ∷ owedCode (x .owed) ∷ [])
+    first (checkOf (ll ∷ rl ∷ []) cl x ∷ sideCode 2 side ∷ placeCode 2 (x .r) p ∷ placeCode 2 (x .r) q ∷ owedCode (x .owed) ∷ [])

@@ -9,7 +9,7 @@ ghost use mathlib.Core.Path.{_≡_};
 ghost use mathlib.Core.List.{List};
 ghost use Prim.Native.Nat.{ℕ, _<_};
 ghost use lib.ListN.{length};
-ghost use Rattle.rules.specs.Table.{state, outcome};
+ghost use Rattle.rules.specs.Table.{table, state, handed, outcome};
 ghost use Rattle.rules.specs.Editor.{look, linkTo, depart, pay};
 ghost use Rattle.rules.specs.Steps.{step, looking, linking, shading};
 ghost use Rattle.rules.specs.Facts.{Good, Owable};
@@ -83,7 +83,7 @@ fn link_code(
 
 // Link, from its source n: the target is walked, the edge moves, the shade is owed.
 fn link_to(left: &mut [u16], right: &mut [u16], x: Record, side: u32, q: Place, n: u16) -> Made
-    requires { ⌜ (Good (length (now left)) (length (now right)) (x .m) x) × ((q .slot < x .r) × (n < x .m)) ⌝ }
+    requires { ⌜ (Good (length (now left)) (length (now right)) (x .m) x) × ((q .slot < x .r) × ((n < x .m) × (side < 2))) ⌝ }
     ensures { λ r. ⌜ ((c : List ℕ) → outcome r (now (left .exit)) (now (right .exit)) c ≡ linkTo (state (now (left .entry)) (now (right .entry)) c x) side q n) ⌝ }
 {
     let to = places::walk(left, right, x.m, q);
@@ -102,7 +102,7 @@ fn link_to(left: &mut [u16], right: &mut [u16], x: Record, side: u32, q: Place, 
 
 // Link, from its source place.
 fn link_from(left: &mut [u16], right: &mut [u16], x: Record, p: Place, side: u32, q: Place) -> Made
-    requires { ⌜ (Good (length (now left)) (length (now right)) (x .m) x) × ((p .slot < x .r) × (q .slot < x .r)) ⌝ }
+    requires { ⌜ (Good (length (now left)) (length (now right)) (x .m) x) × ((p .slot < x .r) × ((q .slot < x .r) × (side < 2))) ⌝ }
     ensures { λ r. ⌜ ((c : List ℕ) → outcome r (now (left .exit)) (now (right .exit)) c ≡ depart (state (now (left .entry)) (now (right .entry)) c x) p (linkTo (state (now (left .entry)) (now (right .entry)) c x) side q)) ⌝ }
 {
     let from = places::walk(left, right, x.m, p);
@@ -146,7 +146,7 @@ pub fn link(
 // Shades the node owed; refused 6 where nothing is.
 fn pay(colour: &mut [u8], x: Record, owed: Owed) -> Made
     requires { ⌜ Owable (length (now colour)) owed ⌝ }
-    ensures { λ r. ⌜ ((l k : List ℕ) → outcome r l k (now (colour .exit)) ≡ pay (state l k (now (colour .entry)) x) owed) ⌝ }
+    ensures { λ r. ⌜ ((es : List (List ℕ)) → handed r es (now (colour .exit)) ≡ pay (table es (now (colour .entry)) x) owed) ⌝ }
 {
     match owed {
         Owed::Nothing => Made {

@@ -5,6 +5,7 @@ use rules::Owed;
 use rules::Phase;
 use rules::Record;
 ghost use mathlib.Core.Path.{_≡_};
+ghost use mathlib.Core.List.{[], _∷_};
 ghost use Prim.Native.Nat.{_<_, _≤_};
 ghost use lib.ListN.{length};
 ghost use Rattle.rules.specs.Table.{state, outcome};
@@ -38,7 +39,7 @@ fn left_of(m: u16, r: u16, n: u16) -> u16
 // Writes every node.
 fn fill(left: &mut [u16], right: &mut [u16], colour: &mut [u8], m: u16, r: u16)
     requires { ⌜ (length (now left) ≡ m) × ((length (now right) ≡ m) × ((length (now colour) ≡ m) × ((m ≤ 4096) × (r ≤ 64)))) ⌝ }
-    ensures { λ _. ⌜ state (now (left .exit)) (now (right .exit)) (now (colour .exit)) (freshRecord m r (freshLast m r)) ≡ freshState m r ⌝ }
+    ensures { λ _. ⌜ state (now (left .exit)) (now (right .exit)) (now (colour .exit)) (freshRecord m r (freshLast m r)) ≡ freshState 2 m r ⌝ }
 {
     let mut n = 0;
     while n < m {
@@ -80,7 +81,7 @@ fn record_of(m: u16, r: u16, last: u16) -> Record
 
 // A fresh table of m nodes and r slots, and its record. Refused: 1.
 pub fn fresh(left: &mut [u16], right: &mut [u16], colour: &mut [u8], m: usize, r: usize) -> Made
-    ensures { λ d. ⌜ outcome d (now (left .exit)) (now (right .exit)) (now (colour .exit)) ≡ fresh m r (now (left .entry)) (now (right .entry)) (now (colour .entry)) ⌝ }
+    ensures { λ d. ⌜ outcome d (now (left .exit)) (now (right .exit)) (now (colour .exit)) ≡ fresh m r (now (left .entry) ∷ now (right .entry) ∷ []) (now (colour .entry)) ⌝ }
 {
     if !rules::size_ok(m, r, left.len(), right.len(), colour.len()) {
         return Made {

@@ -3,7 +3,7 @@ use Rattle.base.specs.Choice.{pick}
 use Prim.Native.Nat.{ℕ}
 use mathlib.Core.Bool.{true}
 use mathlib.Core.Path.{_≡_}
-use mathlib.Core.List.{List}
+use mathlib.Core.List.{List, [], _∷_}
 use Rattle.rules.specs.Table.{State, Outcome, state}
 use Rattle.rules.specs.Steps.{codeOf, nodeOf}
 use Rattle.rules.specs.declared.Place.{Place}
@@ -31,16 +31,15 @@ toldOf a = record { what = whatOf a; code = codeOf a; node = nodeOf a }
 -- what is told, and the three slices and the words as the call leaves them
 pub record Faced : Type 0 where
   pub told : Told
-  pub left : List ℕ
-  pub right : List ℕ
+  pub edges : List (List ℕ)
   pub colour : List ℕ
   pub words : List ℕ
 
 abbrev pub faced : Told → List ℕ → List ℕ → List ℕ → List ℕ → Faced
-faced t l r c w = record { told = t; left = l; right = r; colour = c; words = w }
+faced t l r c w = record { told = t; edges = l ∷ r ∷ []; colour = c; words = w }
 
 abbrev pub shown : Outcome → Faced
-shown o = faced (toldOf (o .answer)) (o .state .left) (o .state .right) (o .state .colour) (wordsOf (o .state .rec))
+shown o = record { told = toldOf (o .answer); edges = o .state .edges; colour = o .state .colour; words = wordsOf (o .state .rec) }
 
 -- words that are no record's
 abbrev pub noRecord : Told

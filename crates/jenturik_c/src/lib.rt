@@ -5,6 +5,7 @@ use rules::Ran;
 use rules::Record;
 use rules::Step;
 ghost use mathlib.Core.Path.{_≡_};
+ghost use mathlib.Core.List.{[], _∷_};
 ghost use Prim.Native.Nat.{_+_, _*_, _/_, _≤_};
 ghost use lib.ListN.{length};
 ghost use mathlib.Core.Bool.{true};
@@ -89,7 +90,7 @@ pub extern "C" fn jenturik_fresh(
     nodes: u32,
     slots: u32,
 ) -> Told
-    ensures { λ t. ⌜ (faced t (now (left .exit)) (now (right .exit)) (now (colour .exit)) (now (words .exit)) ≡ shown (fresh nodes slots (now (left .entry)) (now (right .entry)) (now (colour .entry)))) × (true ≡ isRecord (now (words .exit))) ⌝ }
+    ensures { λ t. ⌜ (faced t (now (left .exit)) (now (right .exit)) (now (colour .exit)) (now (words .exit)) ≡ shown (fresh nodes slots (now (left .entry) ∷ now (right .entry) ∷ []) (now (colour .entry)))) × (true ≡ isRecord (now (words .exit))) ⌝ }
 {
     let made = fresh::fresh(left, right, colour, nodes as usize, slots as usize);
     let rec = made.rec;

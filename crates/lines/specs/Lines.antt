@@ -1,7 +1,7 @@
 -- What a line prints, and what it leaves. Document 01, "The schedule program".
 use Rattle.base.specs.Choice.{pick}
 use Prim.Native.Nat.{ℕ, _-_}
-use mathlib.Core.List.{List, []}
+use mathlib.Core.List.{List, [], _∷_}
 use lib.ListN.{replicate}
 use lib.Dec.{eqb}
 use Rattle.rules.specs.Table.{State, Outcome, state}
@@ -51,7 +51,7 @@ noTable = state [] [] [] (freshRecord 0 0 0)
 
 -- the first line: a fresh table
 unfoldable pub first : Said → Line
-first (First m r) = answered (fresh m r (replicate m 0) (replicate m 0) (replicate m 0))
+first (First m r) = answered (fresh m r (replicate m 0 ∷ replicate m 0 ∷ []) (replicate m 0))
 first (Do a) = prints 10 0 noTable
 first (Collect n) = prints 10 0 noTable
 first Unreadable = prints 10 0 noTable

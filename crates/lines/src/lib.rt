@@ -7,7 +7,7 @@ use rules::Record;
 use text::Said;
 ghost use mathlib.Core.Path.{_≡_};
 ghost use Prim.Native.Nat.{ℕ, _+_, _≤_, _<_};
-ghost use mathlib.Core.List.{List, []};
+ghost use mathlib.Core.List.{List, [], _∷_};
 ghost use lib.ListN.{length, take};
 ghost use Rattle.rules.specs.Table.{state, outcome};
 ghost use Rattle.rules.specs.Fresh.{fresh};
@@ -121,7 +121,7 @@ pub fn later(left: &mut [u16], right: &mut [u16], colour: &mut [u8], x: Record, 
 // A fresh table in the first m entries.
 fn start(left: &mut [u16], right: &mut [u16], colour: &mut [u8], m: usize, r: usize) -> Told
     requires { ⌜ (m ≤ length (now left)) × ((m ≤ length (now right)) × (m ≤ length (now colour))) ⌝ }
-    ensures { λ t. ⌜ prints (t .code) (t .node) (state (take m (now (left .exit))) (take m (now (right .exit))) (take m (now (colour .exit))) (t .rec)) ≡ answered (fresh m r (take m (now (left .entry))) (take m (now (right .entry))) (take m (now (colour .entry)))) ⌝ }
+    ensures { λ t. ⌜ prints (t .code) (t .node) (state (take m (now (left .exit))) (take m (now (right .exit))) (take m (now (colour .exit))) (t .rec)) ≡ answered (fresh m r (take m (now (left .entry)) ∷ take m (now (right .entry)) ∷ []) (take m (now (colour .entry)))) ⌝ }
     ensures { λ _. ⌜ Rest m (now (left .exit)) (now (right .exit)) (now (colour .exit)) (now (left .entry)) (now (right .entry)) (now (colour .entry)) ⌝ }
 {
     answered(fresh::fresh(&mut left[0..m], &mut right[0..m], &mut colour[0..m], m, r))

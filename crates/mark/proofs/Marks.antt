@@ -38,7 +38,7 @@ pub at : (l k c : List ℕ) (x : Record) (s : Spot) → Passes (state l k c (sta
 unfolding standing
 at l k c x s p =
     let g = good _ _ _ (standing x s) (p .code) in
-    let h = inside _ _ _ (standing x s) (p .code) in
+    let h = inside _ _ (standing x s) (p .code) in
     record { i = h .0; low = h .1 .0; high = h .1 .1; dark = g .blackened; steps = g .steps; m-low = g .m-low; m-high = g .m-high; lefts = g .lefts; rights = g .rights; colours = g .colours }
 
 -- no step

@@ -3,6 +3,7 @@ use rules::Owed;
 use rules::Place;
 use rules::Walk;
 ghost use mathlib.Core.Path.{_≡_};
+ghost use mathlib.Core.List.{[], _∷_};
 ghost use Prim.Native.Nat.{_+_, _<_, _≤_};
 ghost use lib.ListN.{length};
 ghost use Rattle.rules.specs.Table.{edgeOf};
@@ -11,7 +12,7 @@ ghost use Rattle.rules.specs.Editor.{sideCode, owedCode};
 ghost use Rattle.places.specs.Stood.{stood};
 
 fn turns_ok(p: Place) -> bool
-    ensures { λ ok. ⌜ ok ≡ turnsOk p ⌝ }
+    ensures { λ ok. ⌜ ok ≡ turnsOk 2 p ⌝ }
 {
     if 12 < p.count {
         return false;
@@ -21,7 +22,7 @@ fn turns_ok(p: Place) -> bool
 
 // Codes 3 and 4.
 pub fn place_code(r: u16, p: Place) -> u8
-    ensures { λ c. ⌜ c ≡ placeCode r p ⌝ }
+    ensures { λ c. ⌜ c ≡ placeCode 2 r p ⌝ }
 {
     if r as u32 <= p.slot {
         return 3;
@@ -34,9 +35,9 @@ pub fn place_code(r: u16, p: Place) -> u8
 
 // Code 10, of a side.
 pub fn side_code(side: u32) -> u8
-    ensures { λ c. ⌜ c ≡ sideCode side ⌝ }
+    ensures { λ c. ⌜ c ≡ sideCode 2 side ⌝ }
 {
-    if 1 < side {
+    if 2 <= side {
         return 10;
     }
     0
@@ -64,7 +65,7 @@ pub fn stood(w: Walk) -> u16
 // From node start, turn by turn, lowest bit first.
 pub fn walk_from(left: &[u16], right: &[u16], m: u16, start: u16, count: u32, word: u32) -> Walk
     requires { ⌜ (start < m) × ((length (now left) ≡ m) × (length (now right) ≡ m)) ⌝ }
-    ensures { λ w. ⌜ w ≡ walkFrom (edgeOf (now (left .entry)) (now (right .entry))) m count word start ⌝ }
+    ensures { λ w. ⌜ w ≡ walkFrom 2 (edgeOf (now (left .entry) ∷ now (right .entry) ∷ [])) m count word start ⌝ }
 {
     let mut n = start;
     let mut rest = word;
@@ -87,7 +88,7 @@ pub fn walk_from(left: &[u16], right: &[u16], m: u16, start: u16, count: u32, wo
 // The walk of a place, from its slot's node.
 pub fn walk(left: &[u16], right: &[u16], m: u16, p: Place) -> Walk
     requires { ⌜ (start p < m) × ((m ≤ 4096) × ((length (now left) ≡ m) × (length (now right) ≡ m))) ⌝ }
-    ensures { λ w. ⌜ w ≡ walkFrom (edgeOf (now (left .entry)) (now (right .entry))) m (p .count) (p .word) (start p) ⌝ }
+    ensures { λ w. ⌜ w ≡ walkFrom 2 (edgeOf (now (left .entry) ∷ now (right .entry) ∷ [])) m (p .count) (p .word) (start p) ⌝ }
 {
     walk_from(left, right, m, (p.slot + 2) as u16, p.count, p.word)
 }

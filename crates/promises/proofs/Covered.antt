@@ -26,7 +26,7 @@ left-by : {o p : Outcome} → o ≡ p → o .state ≡ p .state
 left-by e = ap (λ (o : Outcome). o .state) e
 
 pub fresh-starts : (κs : _) (a : _) (r : _) (s : _) → fresh-call.Learnt κs a r s
-    → state (now (s .0)) (now (s .1 .0)) (now (s .1 .1 .0)) (r .rec) ≡ fresh (a .1 .1 .1 .0) (a .1 .1 .1 .1 .0) (now (a .0)) (now (a .1 .0)) (now (a .1 .1 .0)) .state
+    → state (now (s .0)) (now (s .1 .0)) (now (s .1 .1 .0)) (r .rec) ≡ fresh (a .1 .1 .1 .0) (a .1 .1 .1 .1 .0) (now (a .0) ∷ now (a .1 .0) ∷ []) (now (a .1 .1 .0)) .state
 fresh-starts κs a r s = left-by
 
 pub look-run : (κs : _) (a : _) (r : _) (s : _) → look-call.Learnt κs a r s

@@ -9,7 +9,7 @@ use lib.Dec.{eqb}
 use lib.ListN.{length, take}
 use Rattle.base.specs.Choice.{first}
 use Rattle.base.proofs.Tests.{split, pick-yes}
-use Rattle.rules.specs.Table.{State, Outcome, state}
+use Rattle.rules.specs.Table.{State, Outcome, table, state}
 use Rattle.rules.specs.Check.{check}
 use Rattle.rules.specs.Fresh.{fresh}
 use Rattle.rules.specs.Steps.{step, run}
@@ -67,10 +67,10 @@ c-schedule-determined κs a r r′ s s′ p q = determined (p .0) (q .0)
 
 -- the state that slices and words are
 abbrev pub read : Faced → State
-read f = state (f .left) (f .right) (f .colour) (recordOf (f .words))
+read f = table (f .edges) (f .colour) (recordOf (f .words))
 
 abbrev pub readRun : FacedRun → State
-readRun f = state (f .left) (f .right) (f .colour) (recordOf (f .words))
+readRun f = table (f .edges) (f .colour) (recordOf (f .words))
 
 -- what is shown of an outcome is read as its state
 shown-read : (o : Outcome) → read (shown o) ≡ o .state
@@ -82,9 +82,9 @@ shown-run-read f = rw (record-back (f .state .rec))
 -- Fresh starts a run
 pub c-fresh-starts : (κs : _) (a : _) (r : _) (s : _) → c-fresh.Learnt κs a r s
     → read (faced r (now (s .0)) (now (s .1 .0)) (now (s .1 .1 .0)) (now (s .1 .1 .1 .0)))
-    ≡ fresh (a .1 .1 .1 .1 .0) (a .1 .1 .1 .1 .1 .0) (now (a .0)) (now (a .1 .0)) (now (a .1 .1 .0)) .state
+    ≡ fresh (a .1 .1 .1 .1 .0) (a .1 .1 .1 .1 .1 .0) (now (a .0) ∷ now (a .1 .0) ∷ []) (now (a .1 .1 .0)) .state
 c-fresh-starts κs a r s p =
-    ap read (p .0) ∙ shown-read (fresh (a .1 .1 .1 .1 .0) (a .1 .1 .1 .1 .1 .0) (now (a .0)) (now (a .1 .0)) (now (a .1 .1 .0)))
+    ap read (p .0) ∙ shown-read (fresh (a .1 .1 .1 .1 .0) (a .1 .1 .1 .1 .1 .0) (now (a .0) ∷ now (a .1 .0) ∷ []) (now (a .1 .1 .0)))
 
 module _ (l r c w : List ℕ) (h : true ≡ isRecord w) where
   -- a call that is one step

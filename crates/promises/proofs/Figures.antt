@@ -5,11 +5,11 @@ use mathlib.Core.List.{List, [], _∷_, map, _++_}
 use lib.Dec.{eqb}
 use lib.ListN.{getD}
 use Rattle.base.specs.Choice.{pick, every, first}
-use Rattle.rules.specs.Table.{State, Outcome, unless, edgeOf, withEdge, shadeIn, badEdge}
+use Rattle.rules.specs.Table.{State, Outcome, unless, edgeOf, withEdge, cleared, shadeIn, badEdge}
 use Rattle.rules.specs.Records.{oneMore, afterAppend}
 use Rattle.rules.specs.Check.{sizeOk, phaseOk, owedOk, lastOk, bound, countsOk, recordOk, checkOf}
 use Rattle.rules.specs.Fresh.{tabulate, nextFree, freshLeft, freshLast, freshState, fresh}
-use Rattle.rules.specs.Places.{turnsOk, placeCode, walkFrom, arrive}
+use Rattle.rules.specs.Places.{sidesOk, turnsOk, placeCode, walkFrom, arrive}
 use Rattle.rules.specs.Editor.{sideCode, owedCode, look, depart, linkTo, link, pay, shadeOwed, badFree, relink, takeNext, takeFirst, take}
 use Rattle.rules.specs.Collector.{shadeStep, afterRoots, scanStep, edgeStep, blackStep, append, appendWhite, appendStep, phaseStep, collect}
 use Rattle.rules.specs.Records.{position}
@@ -35,7 +35,7 @@ at count word = record { slot = 0; count = count; word = word }
 
 -- Fresh on slices of M entries that hold something else
 abbrev starts : ℕ → ℕ → Outcome
-starts m r = fresh m r (tabulate (λ n. n + 7) m) (tabulate (λ n. n + 7) m) (tabulate (λ n. n + 7) m)
+starts m r = fresh m r (tabulate (λ n. n + 7) m ∷ tabulate (λ n. n + 7) m ∷ []) (tabulate (λ n. n + 7) m)
 
 abbrev pub three : State
 three = starts 3 1 .state
@@ -85,11 +85,11 @@ abbrev pub table : List Figure
 table =
     -- "M = 3, R = 1: list empty, last 1, Take refused 9; a quiet cycle takes 21 steps, B is 27."
     figure
-    (three .left ∷ (three .rec .last ∷ []) ∷ answers (taking (at 0 0) 0 ∷ []) three ++ counts (run (collects 20) three) ∷ counts (run (collects 21) three) ∷ counts (run (collects 42) three) ∷ (bound 3 1 ∷ []) ∷ [])
+    (getD (three .edges) 0 [] ∷ (three .rec .last ∷ []) ∷ answers (taking (at 0 0) 0 ∷ []) three ++ counts (run (collects 20) three) ∷ counts (run (collects 21) three) ∷ counts (run (collects 42) three) ∷ (bound 2 3 1 ∷ []) ∷ [])
     ((0 ∷ 0 ∷ 0 ∷ []) ∷ (1 ∷ []) ∷ (9 ∷ 0 ∷ []) ∷ (0 ∷ 20 ∷ 0 ∷ 3 ∷ []) ∷ (1 ∷ 0 ∷ 21 ∷ 3 ∷ []) ∷ (2 ∷ 0 ∷ 21 ∷ 3 ∷ []) ∷ (27 ∷ []) ∷ []) ∷
     -- "M = 5, R = 1: fresh left edges 0 3 0 4 0, last 4, B is 53; the quiet first cycle takes 33 steps, nodes in use 5."
     figure
-    (five .left ∷ (five .rec .last ∷ []) ∷ (bound 5 1 ∷ []) ∷ counts (run (collects 32) five) ∷ counts (run (collects 33) five) ∷ [])
+    (getD (five .edges) 0 [] ∷ (five .rec .last ∷ []) ∷ (bound 2 5 1 ∷ []) ∷ counts (run (collects 32) five) ∷ counts (run (collects 33) five) ∷ [])
     ((0 ∷ 3 ∷ 0 ∷ 4 ∷ 0 ∷ []) ∷ (4 ∷ []) ∷ (53 ∷ []) ∷ (0 ∷ 32 ∷ 0 ∷ 5 ∷ []) ∷ (1 ∷ 0 ∷ 33 ∷ 5 ∷ []) ∷ []) ∷
     -- "the first eight answers above": the first line, the five edits, collect (code, and the position's i before its last step), look
     figure
@@ -97,7 +97,7 @@ table =
     ((0 ∷ 4 ∷ []) ∷ (0 ∷ 3 ∷ []) ∷ (0 ∷ 4 ∷ []) ∷ (9 ∷ 0 ∷ []) ∷ (0 ∷ 4 ∷ []) ∷ (0 ∷ 4 ∷ []) ∷ (0 ∷ 3 ∷ []) ∷ (0 ∷ 4 ∷ []) ∷ []) ∷
     -- "Before the collecting, node 3 is garbage but gray": it is no root, no edge leads to it, and its colour is 1
     figure
-    ((edgesTo 3 (worked 0 .left) ∷ edgesTo 3 (worked 0 .right) ∷ getD (worked 0 .colour) 3 0 ∷ []) ∷ [])
+    ((edgesTo 3 (getD (worked 0 .edges) 0 []) ∷ edgesTo 3 (getD (worked 0 .edges) 1 []) ∷ getD (worked 0 .colour) 3 0 ∷ []) ∷ [])
     ((0 ∷ 0 ∷ 1 ∷ []) ∷ []) ∷
     -- "Cycle one takes 33 steps and whitens it; cycle two takes 30 and appends it on its 29th, the 62nd in all."
     figure
@@ -123,5 +123,5 @@ Agrees [] = Unit {0}
 Agrees (f ∷ fs) = (f .computed ≡ f .told) × Agrees fs
 
 pub figures : Agrees table
-unfolding pick every first unless edgeOf withEdge shadeIn badEdge oneMore afterAppend sizeOk phaseOk owedOk lastOk bound countsOk recordOk checkOf tabulate nextFree freshLeft freshLast freshState fresh turnsOk placeCode walkFrom arrive sideCode owedCode look depart linkTo link pay shadeOwed badFree relink takeNext takeFirst take shadeStep afterRoots scanStep edgeStep blackStep append appendWhite appendStep phaseStep collect step run collects
+unfolding pick every first unless edgeOf withEdge cleared shadeIn badEdge oneMore afterAppend sizeOk phaseOk owedOk lastOk bound countsOk recordOk checkOf tabulate nextFree freshLeft freshLast freshState fresh sidesOk turnsOk placeCode walkFrom arrive sideCode owedCode look depart linkTo link pay shadeOwed badFree relink takeNext takeFirst take shadeStep afterRoots scanStep edgeStep blackStep append appendWhite appendStep phaseStep collect step run collects
 figures = (refl, (refl, (refl, (refl, (refl, (refl, (refl, (refl, tt))))))))

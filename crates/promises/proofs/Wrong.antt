@@ -8,11 +8,11 @@ use lib.Dec.{ltb, leb, eqb}
 use borrow.Author.Tests.{eqb-true, eqb-false}
 use Rattle.base.proofs.Tests.{each, not-yes}
 use Rattle.base.specs.Choice.{pick, every, first}
-use Rattle.rules.specs.Table.{State, Outcome, state, did, refuse, unless, black, left, right, edgeOf, edge, withEdge, colourOf, withColour, shadeIn, shade, badEdge}
+use Rattle.rules.specs.Table.{State, sides, Outcome, state, did, refuse, unless, black, left, right, edgeOf, edge, withEdge, cleared, colourOf, withColour, shadeIn, shade, badEdge}
 use Rattle.rules.specs.Records.{withLast, owing, moved, marked, rescan, oneMore, afterAppend}
 use Rattle.rules.specs.Check.{sizeOk, phaseOk, owedOk, lastOk, bound, countsOk, recordOk, checkOf, check}
 use Rattle.rules.specs.Fresh.{tabulate, nextFree, freshLeft, freshLast, freshState, fresh}
-use Rattle.rules.specs.Places.{turnsOk, placeCode, walkFrom, walk, arrive}
+use Rattle.rules.specs.Places.{sidesOk, turnsOk, placeCode, walkFrom, walk, arrive}
 use Rattle.rules.specs.Editor.{sideCode, owedCode, look, depart, linkTo, link, pay, shadeOwed, badFree, relink, takeNext, takeFirst, take}
 use Rattle.rules.specs.Collector.{shadeStep, afterRoots, scanStep, edgeStep, blackStep, append, appendWhite, appendStep, phaseStep, collect}
 use Rattle.rules.specs.Steps.{step, run, source, target, taking, linking, shading, collecting, codeOf, nodeOf}
@@ -106,7 +106,7 @@ leavesNext = kind 0 (λ a s. unshaded s (step a s) (edge s left (nodeOf (step a 
 -- 5 judged before the second place's 3
 abbrev owedEarly : Step → State → Outcome
 owedEarly =
-    kind 1 (λ a s. unless (first (check s ∷ sideCode (a .side) ∷ placeCode (s .rec .r) (source a) ∷ owedCode (s .rec .owed) ∷ placeCode (s .rec .r) (target a) ∷ [])) s (step a s))
+    kind 1 (λ a s. unless (first (check s ∷ sideCode (sides s) (a .side) ∷ placeCode (sides s) (s .rec .r) (source a) ∷ owedCode (s .rec .owed) ∷ placeCode (sides s) (s .rec .r) (target a) ∷ [])) s (step a s))
 
 -- 8 judged after the second walk
 abbrev absentLate : Step → State → Outcome
@@ -135,15 +135,15 @@ mildOwed (Node n) m = ltb n m
 -- without owed 1; without last in the slots; without steps at B
 abbrev withoutOwed : Record → Bool
 withoutOwed x =
-    every (phaseOk (x .m) (x .r) (x .phase) ∷ mildOwed (x .owed) (x .m) ∷ lastOk (x .m) (x .r) (x .last) ∷ countsOk x (bound (x .m) (x .r)) ∷ [])
+    every (phaseOk (x .m) (x .r) (x .phase) ∷ mildOwed (x .owed) (x .m) ∷ lastOk (x .m) (x .r) (x .last) ∷ countsOk x (bound 2 (x .m) (x .r)) ∷ [])
 
 abbrev withoutLast : Record → Bool
 withoutLast x =
-    every (phaseOk (x .m) (x .r) (x .phase) ∷ owedOk (x .m) (x .owed) ∷ ltb (x .last) (x .m) ∷ countsOk x (bound (x .m) (x .r)) ∷ [])
+    every (phaseOk (x .m) (x .r) (x .phase) ∷ owedOk (x .m) (x .owed) ∷ ltb (x .last) (x .m) ∷ countsOk x (bound 2 (x .m) (x .r)) ∷ [])
 
 abbrev withoutSteps : Record → Bool
 withoutSteps x =
-    every (phaseOk (x .m) (x .r) (x .phase) ∷ owedOk (x .m) (x .owed) ∷ lastOk (x .m) (x .r) (x .last) ∷ countsOk x (bound (x .m) (x .r) + 1) ∷ [])
+    every (phaseOk (x .m) (x .r) (x .phase) ∷ owedOk (x .m) (x .owed) ∷ lastOk (x .m) (x .r) (x .last) ∷ countsOk x (bound 2 (x .m) (x .r) + 1) ∷ [])
 
 -- ---- states: runs from a fresh table where a run leads there, else invented
 abbrev one : State
@@ -245,5 +245,5 @@ not-promised r c e =
     (sym (eqb-true _ _ (t .0)) ∙ ap (r .seen) e ∙ eqb-true _ _ (t .1 .0))
 
 pub ruled-out : every (map caught table) ≡ true
-unfolding pick every first unless edgeOf withEdge shadeIn badEdge oneMore afterAppend sizeOk phaseOk owedOk lastOk bound countsOk recordOk checkOf tabulate nextFree freshLeft freshLast freshState fresh turnsOk placeCode walkFrom arrive sideCode owedCode look depart linkTo link pay shadeOwed badFree relink takeNext takeFirst take shadeStep afterRoots scanStep edgeStep blackStep append appendWhite appendStep phaseStep collect step run collects
+unfolding pick every first unless edgeOf withEdge cleared shadeIn badEdge oneMore afterAppend sizeOk phaseOk owedOk lastOk bound countsOk recordOk checkOf tabulate nextFree freshLeft freshLast freshState fresh sidesOk turnsOk placeCode walkFrom arrive sideCode owedCode look depart linkTo link pay shadeOwed badFree relink takeNext takeFirst take shadeStep afterRoots scanStep edgeStep blackStep append appendWhite appendStep phaseStep collect step run collects
 ruled-out = refl

@@ -1,7 +1,8 @@
 -- Where codes 1 and 2 are not given, the record and the lengths are good: the tests as facts.
 use Prim.Native.Nat.{ℕ, _+_, _≤_, _<_}
 use mathlib.Core.Bool.{Bool, true, false, _||_}
-use mathlib.Core.List.{[], _∷_}
+use mathlib.Core.List.{List, [], _∷_}
+use lib.ListN.{length}
 use mathlib.Core.Path.{_≡_, refl, sym}
 use native.Mathlib.Omega.{arith}
 use lib.Dec.{ltb, leb, eqb}
@@ -24,9 +25,9 @@ both true true e = (refl, refl)
 both true false e = absurd (omega arith)
 both false k e = absurd (omega arith)
 
-pub passes : (ll rl cl : ℕ) (x : Record) → 0 ≡ checkOf ll rl cl x → (true ≡ sizeOk (x .m) (x .r) ll rl cl) × (true ≡ recordOk x)
+pub passes : (ls : List ℕ) (cl : ℕ) (x : Record) → 0 ≡ checkOf ls cl x → (true ≡ sizeOk (x .m) (x .r) ls cl) × (true ≡ recordOk (length ls) x)
 unfolding checkOf
-passes ll rl cl x e = both _ _ e
+passes ls cl x e = both _ _ e
 
 last-of : (m r n : ℕ) → lastOk m r n ≡ true → 3 ≤ m → (1 ≤ n) × (n < m)
 unfolding lastOk
@@ -50,21 +51,21 @@ unfolding owedOk
 owable-of m Nothing e = tt
 owable-of m (Node n) e = ltb-true _ _ (each _ (sym e) .1 .0)
 
-pub good : (ll rl cl : ℕ) (x : Record) → 0 ≡ checkOf ll rl cl x → Good ll rl cl x
+pub good : (ll rl cl : ℕ) (x : Record) → 0 ≡ checkOf (ll ∷ rl ∷ []) cl x → Good ll rl cl x
 unfolding sizeOk recordOk countsOk bound
 good ll rl cl x e =
-    let s = each _ (passes ll rl cl x e .0) in
-    let k = each _ (passes ll rl cl x e .1) in
+    let s = each _ (passes (ll ∷ rl ∷ []) cl x e .0) in
+    let k = each _ (passes (ll ∷ rl ∷ []) cl x e .1) in
     let n = each _ (sym (k .1 .1 .1 .0)) in
     let h : x .m ≤ 4096 = omega facts in
     let q = square (x .m) h in
     let l = last-of (x .m) (x .r) (x .last) (k .1 .1 .0) (omega facts) in
     omega facts
 
-pub inside : (ll rl cl : ℕ) (x : Record) → 0 ≡ checkOf ll rl cl x → Inside (x .m) (x .r) (x .phase)
+pub inside : (ls : List ℕ) (cl : ℕ) (x : Record) → 0 ≡ checkOf ls cl x → Inside (x .m) (x .r) (x .phase)
 unfolding recordOk
-inside ll rl cl x e = inside-of _ _ _ (each _ (passes ll rl cl x e .1) .0)
+inside ls cl x e = inside-of _ _ _ (each _ (passes ls cl x e .1) .0)
 
-pub owable : (ll rl cl : ℕ) (x : Record) → 0 ≡ checkOf ll rl cl x → Owable (x .m) (x .owed)
+pub owable : (ls : List ℕ) (cl : ℕ) (x : Record) → 0 ≡ checkOf ls cl x → Owable (x .m) (x .owed)
 unfolding recordOk
-owable ll rl cl x e = owable-of _ _ (each _ (passes ll rl cl x e .1) .1 .0)
+owable ls cl x e = owable-of _ _ (each _ (passes ls cl x e .1) .1 .0)

@@ -3,7 +3,7 @@ use Rattle.base.specs.Choice.{pick}
 use Prim.Native.Nat.{ℕ, _+_, _-_}
 use mathlib.Core.Bool.{_||_}
 use lib.Dec.{eqb}
-use Rattle.rules.specs.Table.{State, Outcome, did, refuse, unless, white, gray, black, isRoot, left, right, edge, withEdge, colourOf, withColour, shade, badEdge, badColour}
+use Rattle.rules.specs.Table.{State, Outcome, did, refuse, unless, white, gray, black, isRoot, left, right, edge, withEdge, cleared, colourOf, withColour, shade, badEdge, badColour}
 use Rattle.rules.specs.Records.{withLast, moved, marked, next, rescan, afterAppend}
 use Rattle.rules.specs.Check.{check}
 use Rattle.rules.specs.declared.Phase.{Phase}
@@ -37,7 +37,7 @@ blackStep s i = did (Blackened i) (withColour s i black) (rescan (s .rec) i)
 
 -- "A white one gets both edges 0, the left edge of last becomes i"
 unfoldable pub append : State → ℕ → State
-append s i = withEdge (withEdge (withEdge s left i 0) right i 0) left (s .rec .last) i
+append s i = withEdge (cleared s i) left (s .rec .last) i
 
 -- bad: "a white root, or a white node that is last"; "last becomes i, and its colour stays white"
 unfoldable pub appendWhite : State → ℕ → Outcome

@@ -5,8 +5,8 @@ use Rattle.base.specs.Choice.{pick, every, first}
 use Prim.Native.Nat.{ℕ, _+_}
 use mathlib.Core.Bool.{Bool, _||_}
 use mathlib.Core.List.{[], _∷_}
-use lib.Dec.{leb, eqb}
-use Rattle.rules.specs.Table.{State, Outcome, did, refuse, unless, NIL, FREE, left, edge, withEdge, shade, badColour}
+use lib.Dec.{ltb, leb, eqb}
+use Rattle.rules.specs.Table.{State, sides, Outcome, did, refuse, unless, NIL, FREE, left, edge, withEdge, shade, badColour}
 use Rattle.rules.specs.Records.{owing, paid, withLast}
 use Rattle.rules.specs.Check.{check}
 use Rattle.rules.specs.Places.{placeCode, walk, arrive}
@@ -16,8 +16,8 @@ use Rattle.rules.specs.declared.Owed.the-variants.{Nothing, Node}
 use Rattle.rules.specs.declared.Answer.the-variants.{Named, Linked, Shaded, Taken}
 
 -- 10: "a side [..] that isn't one of those given"
-unfoldable pub sideCode : ℕ → ℕ
-sideCode side = pick (leb side 1) 0 10
+unfoldable pub sideCode : ℕ → ℕ → ℕ
+sideCode E side = pick (ltb side E) 0 10
 
 -- 5: "Link or Take while a shade is owed"
 unfoldable pub owedCode : Owed → ℕ
@@ -27,7 +27,7 @@ owedCode (Node n) = 5
 -- "Look (a place): answers the node. NIL is allowed and is answered as 0."
 unfoldable pub look : Place → State → Outcome
 look p s =
-    unless (first (check s ∷ placeCode (s .rec .r) p ∷ [])) s
+    unless (first (check s ∷ placeCode (sides s) (s .rec .r) p ∷ [])) s
     (arrive s (walk s p) (λ n. did (Named n) s (s .rec)))
 
 -- 8: "the source place of Link or Take is NIL"
@@ -41,7 +41,7 @@ linkTo s side q n = arrive s (walk s q) (λ t. did (Linked t) (withEdge s side n
 -- "Link (source place, side, target place)"; "Both places are walked in the table as it was before."
 unfoldable pub link : Place → ℕ → Place → State → Outcome
 link p side q s =
-    unless (first (check s ∷ sideCode side ∷ placeCode (s .rec .r) p ∷ placeCode (s .rec .r) q ∷ owedCode (s .rec .owed) ∷ [])) s
+    unless (first (check s ∷ sideCode (sides s) side ∷ placeCode (sides s) (s .rec .r) p ∷ placeCode (sides s) (s .rec .r) q ∷ owedCode (s .rec .owed) ∷ [])) s
     (depart s p (linkTo s side q))
 
 -- "Shade: shades the node owed and answers it; nothing is owed afterwards." 6: "Shade with nothing owed"
@@ -85,5 +85,5 @@ takeFirst s side f n =
 -- "Take (place, side)"
 unfoldable pub take : Place → ℕ → State → Outcome
 take p side s =
-    unless (first (check s ∷ sideCode side ∷ placeCode (s .rec .r) p ∷ owedCode (s .rec .owed) ∷ [])) s
+    unless (first (check s ∷ sideCode (sides s) side ∷ placeCode (sides s) (s .rec .r) p ∷ owedCode (s .rec .owed) ∷ [])) s
     (depart s p (takeFirst s side (edge s left FREE)))

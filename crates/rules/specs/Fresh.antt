@@ -1,10 +1,10 @@
 -- Fresh. Document 01, "The record", last paragraph.
 use Rattle.base.specs.Choice.{pick}
 use Prim.Native.Nat.{ℕ, zero, suc, _+_, _-_}
-use mathlib.Core.List.{List, [], _∷_, _++_}
-use lib.ListN.{length}
+use mathlib.Core.List.{List, [], _∷_, _++_, map}
+use lib.ListN.{length, replicate}
 use lib.Dec.{ltb, eqb}
-use Rattle.rules.specs.Table.{State, Outcome, state, white, FREE}
+use Rattle.rules.specs.Table.{State, Outcome, table, white, FREE}
 use Rattle.rules.specs.Check.{sizeOk}
 use Rattle.rules.specs.declared.Record.{Record}
 use Rattle.rules.specs.declared.Answer.the-variants.{Started, Refused}
@@ -24,7 +24,7 @@ nextFree m n = pick (ltb (n + 1) m) (n + 1) 0
 unfoldable pub freshLeft : ℕ → ℕ → ℕ → ℕ
 freshLeft m r n = pick (eqb n FREE) (nextFree m (r + 1)) (pick (ltb n (r + 2)) 0 (nextFree m n))
 
--- every right edge 0
+-- every other edge 0
 abbrev pub noEdge : ℕ → ℕ
 noEdge n = 0
 
@@ -41,13 +41,13 @@ abbrev pub freshRecord : ℕ → ℕ → ℕ → Record
 freshRecord m r last =
     record { m = m; r = r; phase = Roots 0; owed = Nothing; last = last; steps = 0; cycles = 0; took = 0; blackened = 0; inuse = 0 }
 
-unfoldable pub freshState : ℕ → ℕ → State
-freshState m r =
-    state (tabulate (freshLeft m r) m) (tabulate noEdge m) (tabulate allWhite m) (freshRecord m r (freshLast m r))
+unfoldable pub freshState : ℕ → ℕ → ℕ → State
+freshState E m r =
+    table (tabulate (freshLeft m r) m ∷ replicate (E - 1) (tabulate noEdge m)) (tabulate allWhite m) (freshRecord m r (freshLast m r))
 
 -- "Fresh is given M and R". "If refused, the slices keep their contents and the record has M, R, last and every count 0, Roots 0, nothing owed."
-unfoldable pub fresh : ℕ → ℕ → List ℕ → List ℕ → List ℕ → Outcome
-fresh m r lefts rights colours =
-    pick (sizeOk m r (length lefts) (length rights) (length colours))
-    (record { answer = Started (freshLast m r); state = freshState m r })
-    (record { answer = Refused 1 0; state = state lefts rights colours (freshRecord 0 0 0) })
+unfoldable pub fresh : ℕ → ℕ → List (List ℕ) → List ℕ → Outcome
+fresh m r edges colours =
+    pick (sizeOk m r (map length edges) (length colours))
+    (record { answer = Started (freshLast m r); state = freshState (length edges) m r })
+    (record { answer = Refused 1 0; state = table edges colours (freshRecord 0 0 0) })

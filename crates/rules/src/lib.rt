@@ -1,6 +1,7 @@
 // The types. Document 01 as definitions is in specs/; what is here is the record's test and its steps, and an answer's numbers.
 
 ghost use mathlib.Core.Path.{_≡_};
+ghost use mathlib.Core.List.{[], _∷_};
 ghost use Prim.Native.Nat.{_+_, _*_, _<_, _≤_};
 ghost use Rattle.rules.specs.Records.{position, withPhase, withOwed, withLast, owing, paid, moved, marked, rescan, oneMore, closed, afterAppend};
 ghost use Rattle.rules.specs.Check.{sizeOk, phaseOk, owedOk, lastOk, bound, countsOk, recordOk, checkOf};
@@ -90,7 +91,7 @@ pub struct Ran {
 
 // Code 1: M and R in range, and the three lengths M.
 pub fn size_ok(m: usize, r: usize, lefts: usize, rights: usize, colours: usize) -> bool
-    ensures { λ ok. ⌜ ok ≡ sizeOk m r lefts rights colours ⌝ }
+    ensures { λ ok. ⌜ ok ≡ sizeOk m r (lefts ∷ rights ∷ []) colours ⌝ }
 {
     if m < 3 {
         return false;
@@ -171,7 +172,7 @@ fn last_ok(m: u16, r: u16, n: u16) -> bool
 // B, the most steps that a cycle may take.
 pub fn bound(m: u16, r: u16) -> u32
     requires { ⌜ (m ≤ 4096) × (r ≤ 64) ⌝ }
-    ensures { λ b. ⌜ b ≡ bound m r ⌝ }
+    ensures { λ b. ⌜ b ≡ bound 2 m r ⌝ }
 {
     let n = m as u32;
     n * n + 5 * n + r as u32 + 2
@@ -194,7 +195,7 @@ fn counts_ok(x: Record, b: u32) -> bool
 
 fn record_ok(x: Record) -> bool
     requires { ⌜ (x .m ≤ 4096) × (x .r ≤ 64) ⌝ }
-    ensures { λ ok. ⌜ ok ≡ recordOk x ⌝ }
+    ensures { λ ok. ⌜ ok ≡ recordOk 2 x ⌝ }
 {
     let phase = x.phase;
     if !phase_ok(x.m, x.r, phase) {
@@ -212,7 +213,7 @@ fn record_ok(x: Record) -> bool
 
 // Codes 1 and 2, for slices of these lengths; 0 where neither is given.
 pub fn check(lefts: usize, rights: usize, colours: usize, x: Record) -> u8
-    ensures { λ code. ⌜ code ≡ checkOf lefts rights colours x ⌝ }
+    ensures { λ code. ⌜ code ≡ checkOf (lefts ∷ rights ∷ []) colours x ⌝ }
 {
     if !size_ok(x.m as usize, x.r as usize, lefts, rights, colours) {
         return 1;

@@ -4,6 +4,7 @@ use rules::Ran;
 use rules::Record;
 use rules::Step;
 ghost use mathlib.Core.Path.{_≡_};
+ghost use mathlib.Core.List.{[], _∷_};
 ghost use Prim.Native.Nat.{_<_};
 ghost use Rattle.rules.specs.Table.{state, outcome};
 ghost use Rattle.rules.specs.declared.Made.{Made};
@@ -22,7 +23,7 @@ pub struct Going {
 
 // Codes 1 and 2, judged for an empty run too.
 pub fn begin(lefts: usize, rights: usize, colours: usize, x: Record, n: usize) -> Going
-    ensures { λ g. ⌜ g ≡ begun (checkOf lefts rights colours x) n x ⌝ }
+    ensures { λ g. ⌜ g ≡ begun (checkOf (lefts ∷ rights ∷ []) colours x) n x ⌝ }
 {
     let judged = rules::check(lefts, rights, colours, x);
     if judged != 0 {

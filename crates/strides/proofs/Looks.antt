@@ -33,7 +33,7 @@ look s i k h q =
 module _ (l r c : List ℕ) (x : Record) (i k : ℕ) (p : Passes (state l r c x)) (h : x .phase ≡ Scan i k) where
   leapt-none : leapt x i k 0 ≡ x
   leapt-none =
-      let g = rw h at (inside _ _ _ x (p .code)) in
+      let g = rw h at (inside _ _ x (p .code)) in
       let a : i + 0 ≡ i = omega arith in
       let b : k - 0 ≡ k = omega arith in
       let s : x .steps + 0 ≡ x .steps = omega arith in
@@ -46,7 +46,7 @@ module _ (l r c : List ℕ) (x : Record) (i k : ℕ) (p : Passes (state l r c x)
       let s : x .steps + d + 1 ≡ x .steps + suc d = omega arith in
       rw (mod-add-mod, a, b, s)
 
-  pub looks : (d : ℕ) → d < k → x .steps + d < bound (x .m) (x .r) → Calm c (x .m) i d → Leads (state l r c x) d (state l r c (leapt x i k d))
+  pub looks : (d : ℕ) → d < k → x .steps + d < bound 2 (x .m) (x .r) → Calm c (x .m) i d → Leads (state l r c x) d (state l r c (leapt x i k d))
   looks zero q b m = rw leapt-none (stay _ 0 refl p)
   looks (suc d) q b m =
       let g = good _ _ _ x (p .code) in

@@ -2,18 +2,18 @@
 use Prim.Native.Nat.{ℕ, suc, _+_, _-_, _≤_, _<_}
 use mathlib.Core.Path.{_≡_, refl, sym, _∙_}
 use native.Mathlib.Omega.{arith}
-use Rattle.base.proofs.Tests.{pick-yes, eq-yes, lt-yes, le-yes, every-skip, every-none}
+use Rattle.base.proofs.Tests.{pick-yes, eq-yes, lt-yes, le-yes, every-skip, every-none, each, facts}
 use Rattle.rules.specs.declared.Record.{Record}
 use Rattle.rules.specs.declared.Answer.{Answer}
 use Rattle.rules.specs.Table.{State, Outcome}
-use Rattle.rules.specs.Check.{bound}
+use Rattle.rules.specs.Check.{sizeOk, bound}
 use Rattle.rules.specs.Collector.{phaseStep, collect}
 use Rattle.rules.specs.Steps.{step, collecting, codeOf}
-use Rattle.rules.proofs.Good.{good}
+use Rattle.rules.proofs.Good.{passes}
 use Rattle.rules.proofs.Sizes.{square}
 use Rattle.rules.proofs.Laws.{step-collecting, unless-done}
 use Rattle.strides.specs.Leads.{more, Passes, Room, Leads, fineOk}
-use Rattle.strides.proofs.Steady.{Kept, kept, passes-again}
+use Rattle.strides.proofs.Steady.{count, Kept, kept, passes-again}
 
 -- no step
 pub stay : (s : State) (d : ℕ) → d ≡ 0 → Passes s → Leads s d s
@@ -48,12 +48,12 @@ fewer x cap d h b = let z = b .steps in record { steps = omega arith }
 
 -- the steps fit
 pub small : (s : State) (cap : ℕ) → Passes s → Room (s .rec) cap → s .rec .steps + cap < 20000000
-unfolding bound
+unfolding bound sizeOk
 small s cap p b =
-    let g = good _ _ _ (s .rec) (p .code) in
-    let q = square (s .rec .m) (g .m-high) in
+    let g = each _ (passes _ _ (s .rec) (p .code) .0) in
+    let q = square (s .rec .m) (omega facts) in
     let z = b .steps in
-    omega arith
+    omega facts
 
 -- where the record passes, a step is the step of its phase
 pub step-is : (s : State) → Passes s → phaseStep s (s .rec .phase) ≡ step collecting s
@@ -71,7 +71,7 @@ any-answer s n e a b = refl
 
 -- a step that is done and leaves the two counts within their limits
 pub step-on : (s : State) (o : Outcome) → Passes s → o ≡ phaseStep s (s .rec .phase) → codeOf (o .answer) ≡ 0 → o .state .rec .blackened ≤ s .rec .m
-    → o .state .rec .steps < bound (s .rec .m) (s .rec .r) → Leads s 1 (o .state)
+    → o .state .rec .steps < bound (count s) (s .rec .m) (s .rec .r) → Leads s 1 (o .state)
 unfolding fineOk
 step-on s o p w z k l =
     let h : Kept s o = rw w (kept s (p .code)) in

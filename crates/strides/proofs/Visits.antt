@@ -8,7 +8,6 @@ use lib.Seq.{getD-set-same, getD-set-other}
 use lib.Dec.{eqb}
 use borrow.Author.Tests.{eqb-true, eqb-false}
 use native.Mathlib.Omega.{arith}
-use Rattle.base.specs.Choice.{pick}
 use Rattle.base.proofs.Tests.{split, pick-yes, pick-no, lt-no, le-no, eq-yes, eq-no, or-skip}
 use Rattle.rules.specs.declared.Record.{Record}
 use Rattle.rules.specs.declared.Phase.{Phase}
@@ -46,9 +45,9 @@ still-fit m c e f v h = record { below = h .below; not-free = h .not-free; known
     go false q = rw (getD-set-other c e f 1 0 (λ z. eqb-false e f q (sym z))) (h .known)
 
 module _ (l r c : List ℕ) (x : Record) (i k : ℕ) (p : Passes (state l r c x)) (h : x .phase ≡ Scan i k) where
-  pub visits : getD c i 0 ≡ 1 → Fit (x .m) c (getD l i 0) → Fit (x .m) c (getD r i 0) → x .steps + 4 < bound (x .m) (x .r) → x .blackened < x .m
+  pub visits : getD c i 0 ≡ 1 → Fit (x .m) c (getD l i 0) → Fit (x .m) c (getD r i 0) → x .steps + 4 < bound 2 (x .m) (x .r) → x .blackened < x .m
       → Leads (state l r c x) 4 (state l r (set (shadeIn (shadeIn c (getD l i 0)) (getD r i 0)) i 2) (visited x i))
-  unfolding phaseStep blackStep edgeOf pick
+  unfolding phaseStep blackStep edgeOf
   visits gray left right room dark =
       let g = good _ _ _ x (p .code) in
       let e = getD l i 0 in

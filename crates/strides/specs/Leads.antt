@@ -34,7 +34,7 @@ pub record Passes (s : State) : Type 0 where
 
 -- so many steps stay below B
 pub record Room (x : Record) (cap : ℕ) : Type 0 where
-  pub steps : x .steps + cap < bound (x .m) (x .r)
+  pub steps : x .steps + cap < bound 2 (x .m) (x .r)
 
 -- d steps that are done lead from s to t
 pub record Leads (s : State) (d : ℕ) (t : State) : Type 0 where

@@ -47,7 +47,7 @@ pub at : (l k c : List ℕ) (x : Record) (s : Row) → Passes (state l k c (swep
 unfolding swept
 at l k c x s p =
     let g = good _ _ _ (swept x s) (p .code) in
-    let h = inside _ _ _ (swept x s) (p .code) in
+    let h = inside _ _ (swept x s) (p .code) in
     record { i = h; last = g .last-high; high = g .m-high; steps = g .steps; lefts = g .lefts; rights = g .rights; colours = g .colours }
 
 -- the row that stands for x

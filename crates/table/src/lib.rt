@@ -1,7 +1,7 @@
 // The leaves that read and write the node table.
 ghost use mathlib.Core.Path.{_≡_};
 ghost use Prim.Native.Nat.{ℕ, _<_};
-ghost use mathlib.Core.List.{List};
+ghost use mathlib.Core.List.{List, [], _∷_};
 ghost use lib.ListN.{length};
 ghost use Rattle.rules.specs.Table.{state, edgeOf, withEdge, badEdge, shadeIn};
 ghost use Rattle.rules.specs.declared.Record.{Record};
@@ -18,8 +18,8 @@ pub fn bad_edge(m: u16, e: u16) -> bool
 
 // The edge of node n on a side.
 pub fn edge(left: &[u16], right: &[u16], side: u32, n: u16) -> u16
-    requires { ⌜ (n < length (now left)) × (n < length (now right)) ⌝ }
-    ensures { λ e. ⌜ e ≡ edgeOf (now (left .entry)) (now (right .entry)) side n ⌝ }
+    requires { ⌜ (side < 2) × ((n < length (now left)) × (n < length (now right))) ⌝ }
+    ensures { λ e. ⌜ e ≡ edgeOf (now (left .entry) ∷ now (right .entry) ∷ []) side n ⌝ }
 {
     let at = n as usize;
     if side == 0 {
@@ -30,7 +30,7 @@ pub fn edge(left: &[u16], right: &[u16], side: u32, n: u16) -> u16
 
 // The edge of node n on a side now points to t.
 pub fn set_edge(left: &mut [u16], right: &mut [u16], side: u32, n: u16, t: u16)
-    requires { ⌜ (n < length (now left)) × (n < length (now right)) ⌝ }
+    requires { ⌜ (side < 2) × ((n < length (now left)) × (n < length (now right))) ⌝ }
     ensures { λ _. ⌜ ((c : List ℕ) (x : Record) → state (now (left .exit)) (now (right .exit)) c x ≡ withEdge (state (now (left .entry)) (now (right .entry)) c x) side n t) ⌝ }
 {
     let at = n as usize;

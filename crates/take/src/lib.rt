@@ -5,6 +5,7 @@ use rules::Place;
 use rules::Record;
 use rules::Walk;
 ghost use mathlib.Core.Path.{_≡_};
+ghost use mathlib.Core.List.{[], _∷_};
 ghost use Prim.Native.Nat.{_+_, _<_, _≤_};
 ghost use lib.ListN.{length};
 ghost use Rattle.rules.specs.Table.{state, outcome, edgeOf};
@@ -49,7 +50,7 @@ fn bad_free(m: u16, r: u16, e: u16) -> bool
 
 // The edge points to f, FREE's left edge to g, f's left edge to NIL; f is shaded.
 fn relink(left: &mut [u16], right: &mut [u16], colour: &mut [u8], n: u16, side: u32, f: u16, g: u16)
-    requires { ⌜ (1 < length (now left)) × ((1 < length (now right)) × ((n < length (now left)) × ((n < length (now right)) × ((f < length (now left)) × ((f < length (now right)) × (f < length (now colour))))))) ⌝ }
+    requires { ⌜ (side < 2) × ((1 < length (now left)) × ((1 < length (now right)) × ((n < length (now left)) × ((n < length (now right)) × ((f < length (now left)) × ((f < length (now right)) × (f < length (now colour)))))))) ⌝ }
     ensures { λ _. ⌜ ((x : Record) → state (now (left .exit)) (now (right .exit)) (now (colour .exit)) x ≡ relink (state (now (left .entry)) (now (right .entry)) (now (colour .entry)) x) n side f g) ⌝ }
 {
     table::set_edge(left, right, side, n, f);
@@ -69,7 +70,7 @@ fn take_next(
     f: u16,
     g: u16,
 ) -> Made
-    requires { ⌜ (Good (length (now left)) (length (now right)) (length (now colour)) x) × ((n < x .m) × (f < x .m)) ⌝ }
+    requires { ⌜ (Good (length (now left)) (length (now right)) (length (now colour)) x) × ((n < x .m) × ((f < x .m) × (side < 2))) ⌝ }
     ensures { λ r. ⌜ outcome r (now (left .exit)) (now (right .exit)) (now (colour .exit)) ≡ takeNext (state (now (left .entry)) (now (right .entry)) (now (colour .entry)) x) n side f g ⌝ }
 {
     if bad_free(x.m, x.r, g) {
@@ -117,7 +118,7 @@ fn take_first(
     f: u16,
     n: u16,
 ) -> Made
-    requires { ⌜ (Good (length (now left)) (length (now right)) (length (now colour)) x) × (n < x .m) ⌝ }
+    requires { ⌜ (Good (length (now left)) (length (now right)) (length (now colour)) x) × ((n < x .m) × (side < 2)) ⌝ }
     ensures { λ r. ⌜ outcome r (now (left .exit)) (now (right .exit)) (now (colour .exit)) ≡ takeFirst (state (now (left .entry)) (now (right .entry)) (now (colour .entry)) x) side f n ⌝ }
 {
     if bad_free(x.m, x.r, f) {
@@ -145,8 +146,8 @@ fn take_from(
     p: Place,
     side: u32,
 ) -> Made
-    requires { ⌜ (Good (length (now left)) (length (now right)) (length (now colour)) x) × (p .slot < x .r) ⌝ }
-    ensures { λ r. ⌜ outcome r (now (left .exit)) (now (right .exit)) (now (colour .exit)) ≡ depart (state (now (left .entry)) (now (right .entry)) (now (colour .entry)) x) p (takeFirst (state (now (left .entry)) (now (right .entry)) (now (colour .entry)) x) side (edgeOf (now (left .entry)) (now (right .entry)) 0 1)) ⌝ }
+    requires { ⌜ (Good (length (now left)) (length (now right)) (length (now colour)) x) × ((p .slot < x .r) × (side < 2)) ⌝ }
+    ensures { λ r. ⌜ outcome r (now (left .exit)) (now (right .exit)) (now (colour .exit)) ≡ depart (state (now (left .entry)) (now (right .entry)) (now (colour .entry)) x) p (takeFirst (state (now (left .entry)) (now (right .entry)) (now (colour .entry)) x) side (edgeOf (now (left .entry) ∷ now (right .entry) ∷ []) 0 1)) ⌝ }
 {
     let from = places::walk(left, right, x.m, p);
     let Walk::At(n) = from else {

@@ -1,4 +1,5 @@
 use Prim.Native.Nat.{_-_}
+use mathlib.Core.Path.{refl}
 use native.Mathlib.Omega.{arith}
 use borrow.Author.Needs.{needs}
 use Rattle.batch.proofs.Runs.{ready, steps-in, room, turned}
@@ -33,7 +34,7 @@ same-length-3 : tie.Need-same-length-3
 same-length-3 c = search needs
 
 returns : tie.Need-returns
-returns c = (omega arith, turned _ _ _ _ _ (c .before .before .before .before .before .before .before .before .before .before .before .before .before .before .before .before .before .before .before .before .before .before .before .before .before .before .before .pre .1) (c .before .before .before .before .before .before .before .before .before .before .before .before .before .before .before .before .before .before .stride .ensures .1) (c .before .before .before .before .before .before .before .phase-step .ensures))
+returns c = (omega arith, turned _ _ _ _ _ (c .before .before .before .before .before .before .before .before .before .before .before .before .before .before .before .before .before .before .before .before .before .before .before .before .before .before .before .pre .1) (c .before .before .before .before .before .before .before .before .before .before .before .before .before .before .before .before .before .before .stride .ensures .1) refl (c .before .before .before .before .before .before .before .phase-step .ensures))
 
 pub turn-spec : {M : Type 1} → statement M
 turn-spec =

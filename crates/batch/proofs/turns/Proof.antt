@@ -13,7 +13,7 @@ use Rattle.batch.proofs.turns.Tie as tie
 
 abbrev Inv-loop : tie.InvT-loop
 Inv-loop left₀ right₀ colour₀ b n rec₀ answer₀ done₀ left right colour rec answer done =
-    (length left ≡ length left₀) × (length right ≡ length right₀) × (length colour ≡ length colour₀) × (done ≤ n) × (Passes (state left right colour rec)) × (b ≡ bound (rec .m) (rec .r)) × (more n 0 answer₀ (state left₀ right₀ colour₀ rec₀) ≡ more (n - done) done answer (state left right colour rec))
+    (length left ≡ length left₀) × (length right ≡ length right₀) × (length colour ≡ length colour₀) × (done ≤ n) × (Passes (state left right colour rec)) × (b ≡ bound 2 (rec .m) (rec .r)) × (more n 0 answer₀ (state left₀ right₀ colour₀ rec₀) ≡ more (n - done) done answer (state left right colour rec))
 
 abbrev μ-loop : tie.MeasureT-loop
 μ-loop left₀ right₀ colour₀ b n rec₀ answer₀ done₀ left right colour rec answer done = n - done

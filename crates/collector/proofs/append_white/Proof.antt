@@ -1,9 +1,8 @@
 use Prim.Native.Nat.{_-_}
 use native.Mathlib.Omega.{arith}
 use borrow.Author.Needs.{needs}
-use Rattle.base.specs.Choice.{pick}
 use Rattle.base.proofs.Tests.{tests}
-use Rattle.rules.specs.Table.{withEdge}
+use Rattle.rules.specs.Table.{withEdge, cleared}
 use Rattle.rules.specs.Collector.{append, appendWhite}
 use Rattle.rules.proofs.Laws.{same}
 use Rattle.collector.proofs.append_white.Statement.{statement}
@@ -54,7 +53,7 @@ same-length-2 : tie.Need-same-length-2
 same-length-2 c = search needs
 
 returns-3 : tie.Need-returns-3
-unfolding appendWhite append withEdge pick
+unfolding appendWhite append withEdge cleared
 returns-3 c = λ k. rw (← c .before .with-last .ensures) (search (same, tests, needs) depth 12)
 
 pub append-white-spec : {M : Type 1} → statement M

@@ -17,7 +17,7 @@ same-length c = search needs
 
 returns : tie.Need-returns
 unfolding blackStep
-returns c = λ l k. search (same, tests, needs) depth 12
+returns c = λ es. search (same, tests, needs) depth 12
 
 pub black-step-spec : {M : Type 1} → statement M
 black-step-spec = tie.close (tie.spec slice-write-colour rescan-requires same-length returns)

@@ -15,7 +15,7 @@ unfolding collect
 returns c = rw step-collecting (unless-refused _ _ _ _ (c .before .check .ensures) (c .if1 .taken))
 
 phase-step-requires : tie.Need-phase-step-requires
-phase-step-requires c κs = (good _ _ _ _ (sym (c .before .before .before .if1 .left) ∙ c .before .before .before .before .check .ensures), inside _ _ _ _ (sym (c .before .before .before .if1 .left) ∙ c .before .before .before .before .check .ensures))
+phase-step-requires c κs = (good _ _ _ _ (sym (c .before .before .before .if1 .left) ∙ c .before .before .before .before .check .ensures), inside _ _ _ (sym (c .before .before .before .if1 .left) ∙ c .before .before .before .before .check .ensures))
 
 same-length : tie.Need-same-length
 same-length c = search needs

@@ -13,7 +13,7 @@ bad-edge-requires c κs = search needs
 
 returns : tie.Need-returns
 unfolding edgeStep
-returns c = λ l k. pick-yes _ _ _ _ (sym (c .if1 .taken) ∙ c .before .bad-edge .ensures) refl
+returns c = λ es. pick-yes _ _ _ _ (sym (c .if1 .taken) ∙ c .before .bad-edge .ensures) refl
 
 shade-step-requires : tie.Need-shade-step-requires
 shade-step-requires c κs = let h = fine-edge _ _ (sym (c .before .if1 .left) ∙ c .before .before .bad-edge .ensures) in omega arith
@@ -23,7 +23,7 @@ same-length c = search needs
 
 returns-2 : tie.Need-returns-2
 unfolding edgeStep
-returns-2 c = λ l k. pick-no _ _ _ _ (sym (c .before .before .before .before .if1 .left) ∙ c .before .before .before .before .before .bad-edge .ensures) (c .before .before .shade-step .ensures l k)
+returns-2 c = λ es. pick-no _ _ _ _ (sym (c .before .before .before .before .if1 .left) ∙ c .before .before .before .before .before .bad-edge .ensures) (c .before .before .shade-step .ensures es)
 
 pub edge-step-spec : {M : Type 1} → statement M
 edge-step-spec =

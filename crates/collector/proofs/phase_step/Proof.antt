@@ -55,14 +55,14 @@ same-length c = search needs
 
 returns : tie.Need-returns
 unfolding phaseStep
-returns c = rw (c .before .before .before .before .before .before .phase .given .1, ← c .before .before .before .after-roots .ensures) (c .before .before .shade-step .ensures _ _)
+returns c = rw (c .before .before .before .before .before .before .phase .given .1, ← c .before .before .before .after-roots .ensures) (c .before .before .shade-step .ensures _)
 
 same-length-2 : tie.Need-same-length-2
 same-length-2 c = search needs
 
 returns-2 : tie.Need-returns-2
 unfolding phaseStep
-returns-2 c = rw (c .before .before .before .phase2 .given .1) (c .scan-step .ensures _ _)
+returns-2 c = rw (c .before .before .before .phase2 .given .1) (c .scan-step .ensures _)
 
 same-length-3 : tie.Need-same-length-3
 same-length-3 c = search needs
@@ -75,7 +75,7 @@ same-length-5 c = search needs
 
 returns-3 : tie.Need-returns-3
 unfolding phaseStep
-returns-3 c = rw (c .before .before .before .before .before .before .before .before .phase3 .given .1, ← c .before .before .before .edge .ensures) (c .before .before .edge-step .ensures _ _)
+returns-3 c = rw (c .before .before .before .before .before .before .before .before .phase3 .given .1, ← c .before .before .before .edge .ensures) (c .before .before .edge-step .ensures _)
 
 same-length-6 : tie.Need-same-length-6
 same-length-6 c = search needs
@@ -88,14 +88,14 @@ same-length-8 c = search needs
 
 returns-4 : tie.Need-returns-4
 unfolding phaseStep
-returns-4 c = rw (c .before .before .before .before .before .before .before .before .phase4 .given .1, ← c .before .before .before .edge2 .ensures) (c .before .before .edge-step2 .ensures _ _)
+returns-4 c = rw (c .before .before .before .before .before .before .before .before .phase4 .given .1, ← c .before .before .before .edge2 .ensures) (c .before .before .edge-step2 .ensures _)
 
 same-length-9 : tie.Need-same-length-9
 same-length-9 c = search needs
 
 returns-5 : tie.Need-returns-5
 unfolding phaseStep
-returns-5 c = rw (c .before .before .before .before .before .phase5 .given .1) (c .before .before .black-step .ensures _ _)
+returns-5 c = rw (c .before .before .before .before .before .phase5 .given .1) (c .before .before .black-step .ensures _)
 
 same-length-10 : tie.Need-same-length-10
 same-length-10 c = search needs

@@ -11,7 +11,7 @@ shared-slice-read-if1 c = search needs
 
 returns : tie.Need-returns
 unfolding scanStep
-returns c = λ l k. search (same, tests, needs) depth 12
+returns c = λ es. search (same, tests, needs) depth 12
 
 shared-slice-read-if2 : tie.Need-shared-slice-read-if2
 shared-slice-read-if2 c = search needs
@@ -21,14 +21,14 @@ moved-requires c κs = search needs
 
 returns-2 : tie.Need-returns-2
 unfolding scanStep
-returns-2 c = λ l k. search (same, tests, needs) depth 12
+returns-2 c = λ es. search (same, tests, needs) depth 12
 
 marked-requires : tie.Need-marked-requires
 marked-requires c κs = search needs
 
 returns-3 : tie.Need-returns-3
 unfolding scanStep
-returns-3 c = λ l k. search (same, tests, needs) depth 12
+returns-3 c = λ es. search (same, tests, needs) depth 12
 
 add-t18 : tie.Need-add-t18
 add-t18 c = search needs
@@ -44,7 +44,7 @@ moved-requires-2 c κs = search needs
 
 returns-4 : tie.Need-returns-4
 unfolding scanStep
-returns-4 c = λ l k. search (same, tests, needs) depth 12
+returns-4 c = λ es. search (same, tests, needs) depth 12
 
 pub scan-step-spec : {M : Type 1} → statement M
 scan-step-spec =

@@ -11,7 +11,7 @@ slice-read-if1 c = search needs
 
 returns : tie.Need-returns
 unfolding shadeStep
-returns c = λ l k. search (same, tests, needs) depth 12
+returns c = λ es. search (same, tests, needs) depth 12
 
 shade-node-requires : tie.Need-shade-node-requires
 shade-node-requires c κs = search needs
@@ -24,7 +24,7 @@ same-length c = search needs
 
 returns-2 : tie.Need-returns-2
 unfolding shadeStep
-returns-2 c = λ l k. search (same, tests, needs) depth 12
+returns-2 c = λ es. search (same, tests, needs) depth 12
 
 pub shade-step-spec : {M : Type 1} → statement M
 shade-step-spec =

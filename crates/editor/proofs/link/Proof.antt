@@ -6,7 +6,7 @@ use Rattle.base.proofs.Tests.{zeros}
 use Rattle.rules.specs.Editor.{link}
 use Rattle.rules.proofs.Good.{good}
 use Rattle.rules.proofs.Laws.{unless-done, unless-refused, step-linking}
-use Rattle.rules.proofs.Walks.{slot-below}
+use Rattle.rules.proofs.Walks.{slot-below, side-below}
 use Rattle.editor.specs.Codes.{linkCode}
 use Rattle.editor.proofs.link.Statement.{statement}
 use Rattle.editor.proofs.link.Tie as tie
@@ -20,7 +20,7 @@ returns c = rw step-linking (unless-refused _ _ _ _ (c .before .link-code .ensur
 
 link-from-requires : tie.Need-link-from-requires
 unfolding linkCode
-link-from-requires c κs = let z = zeros _ (sym (c .before .before .if1 .left) ∙ c .before .before .before .link-code .ensures) in let g = good _ _ _ _ (z .0) in let p = slot-below _ _ (z .1 .1 .0) in let q = slot-below _ _ (z .1 .1 .1 .0) in omega arith
+link-from-requires c κs = let z = zeros _ (sym (c .before .before .if1 .left) ∙ c .before .before .before .link-code .ensures) in let g = good _ _ _ _ (z .0) in let p = slot-below _ _ _ (z .1 .1 .0) in let q = slot-below _ _ _ (z .1 .1 .1 .0) in let d = side-below _ _ (z .1 .0) in omega arith
 
 same-length : tie.Need-same-length
 same-length c = search needs

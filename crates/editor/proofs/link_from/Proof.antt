@@ -37,7 +37,7 @@ returns-2 : tie.Need-returns-2
 returns-2 c = λ k. absent _ _ _ _ _ (c .before .before .before .before .walk .ensures) (c .before .before .from .given .1) (c .if1 .taken)
 
 link-to-requires : tie.Need-link-to-requires
-link-to-requires c κs = let n = at-below _ _ _ _ _ _ _ (c .before .before .before .before .before .before .walk .ensures) (c .before .before .before .before .from .given .1) (omega (arith, c .before .before .before .before .before .before .before .before .before .before .before .pre)) in omega (arith, c .before .before .before .before .before .before .before .before .before .before .before .pre)
+link-to-requires c κs = let n = at-below _ _ _ _ _ _ _ _ (c .before .before .before .before .before .before .walk .ensures) (c .before .before .before .before .from .given .1) (omega (arith, c .before .before .before .before .before .before .before .before .before .before .before .pre)) in omega (arith, c .before .before .before .before .before .before .before .before .before .before .before .pre)
 
 same-length-5 : tie.Need-same-length-5
 same-length-5 c = search needs

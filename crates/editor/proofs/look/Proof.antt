@@ -21,7 +21,7 @@ returns c = rw step-looking (unless-refused _ _ _ _ (c .before .look-code .ensur
 
 walk-requires : tie.Need-walk-requires
 unfolding lookCode
-walk-requires c κs = let z = zeros _ (sym (c .if1 .left) ∙ c .before .look-code .ensures) in let g = good _ _ _ _ (z .0) in let k = slot-below _ _ (z .1 .0) in omega arith
+walk-requires c κs = let z = zeros _ (sym (c .if1 .left) ∙ c .before .look-code .ensures) in let g = good _ _ _ _ (z .0) in let k = slot-below _ _ _ (z .1 .0) in omega arith
 
 enum-known-found : tie.Need-enum-known-found
 enum-known-found c = search needs

@@ -24,7 +24,7 @@ slice-read-if1 c = let h = subst (Owable (length (c .before .before .before .bef
 
 returns : tie.Need-returns
 unfolding pay
-returns c = λ l k. rw (c .before .before .before .owed .given .1) (search (same, tests, needs) depth 12)
+returns c = λ es. rw (c .before .before .before .owed .given .1) (search (same, tests, needs) depth 12)
 
 shade-node-requires : tie.Need-shade-node-requires
 shade-node-requires c κs = let h = subst (Owable (length (c .before .before .before .before .before .before .before .args .colour .now))) (c .before .before .before .before .owed .given .1) (c .before .before .before .before .before .before .before .pre) in omega arith
@@ -34,14 +34,14 @@ paid-requires c κs = search needs
 
 returns-2 : tie.Need-returns-2
 unfolding pay
-returns-2 c = λ l k. rw (c .enum-told .given .1)
+returns-2 c = λ es. rw (c .enum-told .given .1)
 
 same-length : tie.Need-same-length
 same-length c = search needs
 
 returns-3 : tie.Need-returns-3
 unfolding pay
-returns-3 c = λ l k. rw (c .before .before .before .before .before .before .before .before .owed .given .1) (search (same, tests, needs) depth 12)
+returns-3 c = λ es. rw (c .before .before .before .before .before .before .before .before .owed .given .1) (search (same, tests, needs) depth 12)
 
 pub pay-spec : {M : Type 1} → statement M
 pay-spec =

@@ -6,7 +6,7 @@ use Rattle.base.proofs.Tests.{zeros}
 use Rattle.rules.specs.Editor.{take}
 use Rattle.rules.proofs.Good.{good}
 use Rattle.rules.proofs.Laws.{unless-done, unless-refused, step-taking}
-use Rattle.rules.proofs.Walks.{slot-below}
+use Rattle.rules.proofs.Walks.{slot-below, side-below}
 use Rattle.take.specs.Codes.{takeCode}
 use Rattle.take.proofs.take.Statement.{statement}
 use Rattle.take.proofs.take.Tie as tie
@@ -20,7 +20,7 @@ returns c = rw step-taking (unless-refused _ _ _ _ (c .before .take-code .ensure
 
 take-from-requires : tie.Need-take-from-requires
 unfolding takeCode
-take-from-requires c κs = let z = zeros _ (sym (c .before .before .before .if1 .left) ∙ c .before .before .before .before .take-code .ensures) in let g = good _ _ _ _ (z .0) in let p = slot-below _ _ (z .1 .1 .0) in omega arith
+take-from-requires c κs = let z = zeros _ (sym (c .before .before .before .if1 .left) ∙ c .before .before .before .before .take-code .ensures) in let g = good _ _ _ _ (z .0) in let p = slot-below _ _ _ (z .1 .1 .0) in let d = side-below _ _ (z .1 .0) in omega arith
 
 same-length : tie.Need-same-length
 same-length c = search needs
