@@ -52,17 +52,13 @@ some-appended : {x : ℕ} {cs : List Step} {s : State} → Some after (λ c s. a
 some-appended {x} (now {c = c} {s = s} q) = now (is-appended x (step c s .answer) q)
 some-appended (later k) = later (some-appended k)
 
--- nothing is counted yet
-abbrev pub begun : Count
-begun = record { since = 0; took = 0 }
-
 -- a sound state with these M and R
 record Held (E m r : ℕ) (s : State) : Type 0 where
   sound : Sound E s
   nodes : s .rec .m ≡ m
   slots : s .rec .r ≡ r
 
--- what is carried along a run: the state is sound, M and R are Fresh's, and the record's counts are those counted
+-- what is carried along a run: the state is sound, M and R are the start's, and the record's counts are those counted
 pub record Carried (E m r : ℕ) (n : Count) (s : State) : Type 0 where
   pub sound : Sound E s
   pub nodes : s .rec .m ≡ m

@@ -121,30 +121,30 @@ parts {E} (more {c = c} {cs = cs} {s = s} e t) g k = go (stepped c s g) (parts t
     go (edits e₁ h d) f = on-to (d .appends) (f (rw (d .same .phase) k))
 
 -- a cycle begins in Roots 0
-pub cycle-appends : {E m r : ℕ} {cs : List Step} {s : State} → E ≡ 2 → Reached E m r s → s .rec .phase ≡ Roots 0 → ToEnd cs s
+pub cycle-appends : {E m r : ℕ} {cs : List Step} {s : State} → Reached E m r s → s .rec .phase ≡ Roots 0 → ToEnd cs s
     → (p : Parts cs s) × Exactly (λ x. (x < m) × (colourOf (run (p .before) s) x ≡ white)) (appended cs s)
-cycle-appends {E} {m} {cs = cs} {s} two k q t =
+cycle-appends {E} {m} {cs = cs} {s} k q t =
     let c = carried-from (p .before) s g in (
       p,
-      subst₂ (λ n xs. Exactly (λ x. (x < n) × (colourOf (run (p .before) s) x ≡ white)) xs) (c .1 .nodes ∙ sound-reached two k .1) (sym (p .nothing))
+      subst₂ (λ n xs. Exactly (λ x. (x < n) × (colourOf (run (p .before) s) x ≡ white)) xs) (c .1 .nodes ∙ sound-reached k .1) (sym (p .nothing))
           (appends-exactly (p .to-end) (c .1 .sound) (p .begins)),
     )
   where
     g : Sound E s
-    g = sound-reached two k .0
+    g = sound-reached k .0
 
     p : Parts cs s
     p = parts t g (rw q rooting)
 
 -- garbage when an appending begins
-pub garbage-by-next : {E m r x : ℕ} {cs ds : List Step} {s : State} → E ≡ 2 → Reached E m r s → s .rec .phase ≡ Append 0 → x < m → ¬ RootReaches s x → ToEnd cs s
+pub garbage-by-next : {E m r x : ℕ} {cs ds : List Step} {s : State} → Reached E m r s → s .rec .phase ≡ Append 0 → x < m → ¬ RootReaches s x → ToEnd cs s
     → ToEnd ds (run cs s) → Mem x (appended cs s) ⊎ Mem x (appended ds (run cs s))
-garbage-by-next {E} {cs = cs} {ds} {s} two k q hx u t t₁ =
+garbage-by-next {E} {cs = cs} {ds} {s} k q hx u t t₁ =
     let c = carried-from cs s g in
-    C.appended-by-next (sizes (g .fits)) (g .inv) (ap (kind E) q) (omega (arith, sound-reached two k .1)) (λ a. u (rw (g .rows .count) (reach-from (λ n h. omega arith) a)))
+    C.appended-by-next (sizes (g .fits)) (g .inv) (ap (kind E) q) (omega (arith, sound-reached k .1)) (λ a. u (rw (g .rows .count) (reach-from (λ n h. omega arith) a)))
     (rest-of t g)
     (subst₂ (λ m r. Rest E m (suc (suc r)) (abs E (run cs s)) (appended ds (run cs s)) (abs E (run ds (run cs s)))) (c .1 .nodes) (c .1 .slots)
     (rest-of t₁ (c .1 .sound)))
   where
     g : Sound E s
-    g = sound-reached two k .0
+    g = sound-reached k .0

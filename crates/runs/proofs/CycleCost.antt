@@ -67,12 +67,12 @@ rest-cost {E} {m} {r} (more {c = c} {cs = cs} {s = s} e t) g qm qr = go (stepped
         rw (k .blackens) (omega (arith, rw (k .same .steps, k .same .blackened) at (f (k .same .m ∙ qm) (k .same .r ∙ qr)), no-more c cs h))
 
 -- a cycle begins in Roots 0
-pub cycle-cost : {E m r : ℕ} {cs : List Step} {s : State} → E ≡ 2 → Reached E m r s → s .rec .phase ≡ Roots 0 → ToEnd cs s
+pub cycle-cost : {E m r : ℕ} {cs : List Step} {s : State} → Reached E m r s → s .rec .phase ≡ Roots 0 → ToEnd cs s
     → collectorSteps cs ≤ tight E m r (blackenings cs s)
-cycle-cost {E} {m} {r} {cs} {s} two k q t = go (rw q at (g .0 .bill)) refl refl
+cycle-cost {E} {m} {r} {cs} {s} k q t = go (rw q at (g .0 .bill)) refl refl
   where
     g : Sound E s × (s .rec .m ≡ m) × (s .rec .r ≡ r)
-    g = sound-reached two k
+    g = sound-reached k
 
     go : {c : Colours} {m′ r′ n b : ℕ} → Bill E m′ r′ c n b (Roots 0) → s .rec .steps ≡ n → s .rec .blackened ≡ b
         → collectorSteps cs ≤ tight E m r (blackenings cs s)

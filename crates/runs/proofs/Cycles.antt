@@ -4,28 +4,26 @@ use Prim.Native.Nat.{ℕ, suc, _+_}
 use mathlib.Core.Bool.{true, false, true≢false}
 use mathlib.Core.Path.{_≡_, sym, _∙_, subst₂}
 use mathlib.Core.List.{List, [], _∷_}
-use lib.ListN.{length}
 use Rattle.rules.specs.Table.{State}
-use Rattle.rules.specs.Fresh.{fresh}
-use Rattle.rules.specs.Steps.{step, run, codeOf}
+use Rattle.rules.specs.Steps.{step, run}
 use Rattle.rules.specs.declared.Step.{Step}
 use Rattle.theory.proofs.Cycle.{note, Rest, last-step, collector, editor}
-use Rattle.runs.specs.Runs.{after, completes}
+use Rattle.runs.specs.Runs.{after, completes, begun}
+use Rattle.runs.specs.Start.{Start}
 use Rattle.runs.proofs.Sound.{Sound, abs, top}
 use Rattle.runs.proofs.Made.{act, blackens}
 use Rattle.runs.proofs.Edited.{made-there}
 use Rattle.runs.proofs.AnyStep.{Stepped, goes-on, closes, edits, stepped, sound-step}
-use Rattle.runs.proofs.Counting.{begun, carried-run}
-use Rattle.runs.proofs.FromFresh.{starts}
+use Rattle.runs.proofs.Counting.{carried-run}
+use Rattle.runs.proofs.Starts.{starts}
 
--- s is a state that some steps reach from a table that Fresh made for m and r
+-- s is a state that some steps reach from a start with m nodes and r slots
 pub data Reached (E m r : ℕ) : State → Type 0 where
-  reached : (edges : List (List ℕ)) (colours : List ℕ) → length edges ≡ E → codeOf (fresh m r edges colours .answer) ≡ 0 → (cs : List Step)
-      → Reached E m r (run cs (fresh m r edges colours .state))
+  reached : {s : State} → Start E m r s → (cs : List Step) → Reached E m r (run cs s)
 
-pub sound-reached : {E m r : ℕ} {s : State} → E ≡ 2 → Reached E m r s → Sound E s × (s .rec .m ≡ m) × (s .rec .r ≡ r)
-sound-reached {E} {m} {r} two (reached l c q e cs) =
-    let v = carried-run cs _ begun (starts m r l c two q e) in
+pub sound-reached : {E m r : ℕ} {s : State} → Reached E m r s → Sound E s × (s .rec .m ≡ m) × (s .rec .r ≡ r)
+sound-reached (reached {s = s} k cs) =
+    let v = carried-run cs s begun (starts k) in
     (v .sound, v .nodes, v .slots)
 
 -- the steps from s up to the one that completes the cycle

@@ -1,4 +1,4 @@
--- Demand 3: each of its claims, of a sound state, and all of them of every run from Fresh.
+-- Demand 3: each of its claims, of a sound state, and all of them of every run from a start.
 use Prim.Native.Nat.{ℕ, suc, _<_}
 use mathlib.Core.Bool.{true, true≢false}
 use mathlib.Core.Path.{_≡_, refl, sym, ap, _∙_, subst}
@@ -19,13 +19,13 @@ use Rattle.theory.proofs.Safe as A
 use A.{untouched}
 use Rattle.theory.proofs.Facts as F
 use Rattle.theory.proofs.Invariant.{Free, at-roots}
-use Rattle.runs.specs.Runs.{after, collector, Count}
+use Rattle.runs.specs.Runs.{after, collector, Count, begun}
 use Rattle.runs.specs.Demand.{RootReaches, SlotReaches, Mild, FreeNodes, Demand, Demand-3}
 use Rattle.runs.proofs.Tables.{Rows, reach-from}
 use Rattle.runs.proofs.Sound.{owes, top, InvIn, Sound, sizes, Ready, ready}
 use Rattle.runs.proofs.AnyStep.{Collected, Stepped, goes-on, closes, edits, stepped}
-use Rattle.runs.proofs.Counting.{begun, Carried, carried-run, ends-within, appended-within}
-use Rattle.runs.proofs.FromFresh.{starts}
+use Rattle.runs.proofs.Counting.{Carried, carried-run, ends-within, appended-within}
+use Rattle.runs.proofs.Starts.{starts}
 
 -- what slots and roots reach, and garbage, as the theory has them
 module _ {E m : ℕ} (s : State) (w : Rows E m (s .edges)) {x : ℕ} where
@@ -132,5 +132,5 @@ demand {E} {m} {r} {n} {s} v = record {
     same-bound : bound E (s .rec .m) (s .rec .r) ≡ bound E m r
     same-bound = rw (v .nodes, v .slots) refl
 
-pub demand-3 : (e : ℕ) → e ≡ 2 → Demand-3 e
-demand-3 e two m r es c q z cs = demand (carried-run cs _ begun (starts m r es c two q z))
+pub demand-3 : Demand-3
+demand-3 e m r s k cs = demand (carried-run cs s begun (starts k))

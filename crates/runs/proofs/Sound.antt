@@ -21,6 +21,7 @@ use Rattle.theory.proofs.Update.{Colours}
 use Rattle.theory.proofs.Steps as S
 use Rattle.theory.proofs.Invariant.{Sizes, InPhase, Inv, at-roots, at-work, at-append}
 use Rattle.theory.proofs.Facts.{owed-lies, last-lies}
+use Rattle.runs.specs.Start.{Served}
 use Rattle.runs.proofs.Tables.{Rows}
 use Rattle.runs.proofs.Bill.{kind, Bill, of-roots, of-scan, of-left, of-right, of-black, of-append, below-bound, blackened-le}
 
@@ -53,7 +54,7 @@ abbrev pub BillIn : ℕ → State → Phase → Type 0
 BillIn E s ph = Bill E (s .rec .m) (s .rec .r) (colourOf s) (s .rec .steps) (s .rec .blackened) ph
 
 pub record Fits (E : ℕ) (s : State) : Type 0 where
-  pub few : E ≡ 2
+  pub few : Served E
   pub m-low : 3 ≤ s .rec .m
   pub m-high : s .rec .m ≤ 4096
   pub r-low : 1 ≤ s .rec .r
