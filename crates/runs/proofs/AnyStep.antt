@@ -4,7 +4,6 @@ use Prim.Native.Nat.{ℕ, suc, _+_}
 use mathlib.Core.Bool.{Bool, true, false}
 use mathlib.Core.Path.{_≡_, refl, sym}
 use mathlib.Core.List.{[], _∷_}
-use native.Mathlib.Omega.{arith}
 use borrow.Author.Tests.{eqb-true}
 use Rattle.base.specs.Choice.{pick, first}
 use Rattle.base.proofs.Tests.{every-here, every-skip, every-last, split}
@@ -19,12 +18,13 @@ use Rattle.theory.proofs.Keep.{keep-editor}
 use Rattle.runs.specs.Runs.{after, collector, lastAppend, completes}
 use Rattle.runs.specs.Demand.{Mild}
 use Rattle.runs.proofs.Picks.{if-no}
+use Rattle.runs.proofs.Codes.{mild, mild-first}
 use Rattle.runs.proofs.Tables.{rows-kept}
 use Rattle.runs.proofs.Bill.{kind, bill-edit}
 use Rattle.runs.proofs.Sound.{abs, top, Sound, sizes, Ready, ready}
 use Rattle.runs.proofs.Made.{act, blackens, Ticked, on, over, Made}
 use Rattle.runs.proofs.AppendStep.{collect-made, sound-made}
-use Rattle.runs.proofs.Edited.{Edited, refused, mild-first, made-there}
+use Rattle.runs.proofs.Edited.{Edited, refused, made-there}
 use Rattle.runs.proofs.LinkStep.{look-edited, link-edited}
 use Rattle.runs.proofs.TakeStep.{shade-edited, take-edited}
 
@@ -53,7 +53,7 @@ edits-is {E} c s {ph} g h = split (Edited E s ph) _ _ _ (λ a. take-edited g _ _
     (λ a. refused (g .fits) _ 0 unreadable)))))
   where
     unreadable : Mild (first (check s ∷ 10 ∷ []))
-    unreadable = mild-first (check s ∷ 10 ∷ []) (rw (← g .good) (omega arith), (omega arith, tt))
+    unreadable = mild-first (check s ∷ 10 ∷ []) (rw (← g .good) (mild refl), (mild refl, tt))
 
 pub stepped : {E : ℕ} (c : Step) (s : State) → Sound E s → Stepped E c s
 unfolding completes

@@ -21,6 +21,7 @@ use Rattle.theory.proofs.Facts as F
 use Rattle.theory.proofs.Invariant.{Free, at-roots}
 use Rattle.runs.specs.Runs.{after, collector, Count, begun}
 use Rattle.runs.specs.Demand.{RootReaches, SlotReaches, Mild, FreeNodes, Demand, Demand-3}
+use Rattle.runs.proofs.Codes.{mild}
 use Rattle.runs.proofs.Tables.{Rows, reach-from}
 use Rattle.runs.proofs.Sound.{owes, top, InvIn, Sound, sizes, Ready, ready}
 use Rattle.runs.proofs.AnyStep.{Collected, Stepped, goes-on, closes, edits, stepped}
@@ -57,12 +58,12 @@ module _ {E : ℕ} {s : State} (g : Sound E s) where
       go (closes e a b k) = k .code
       go (edits e q k) = absurd (true≢false (sym h ∙ q))
 
-  mild : (c : Step) → Mild (codeOf (step c s .answer))
-  mild c = go (stepped c s g)
+  answers : (c : Step) → Mild (codeOf (step c s .answer))
+  answers c = go (stepped c s g)
     where
       go : Stepped E c s → Mild (codeOf (step c s .answer))
-      go (goes-on e a b x k) = omega (arith, k .code)
-      go (closes e a b k) = omega (arith, k .code)
+      go (goes-on e a b x k) = rw (k .code) (mild refl)
+      go (closes e a b k) = rw (k .code) (mild refl)
       go (edits e q k) = k .code
 
   leaves : (c : Step) → collector c ≡ true → (side x : ℕ) → SlotReaches s x → edge (after c s) side x ≡ edge s side x
@@ -114,7 +115,7 @@ demand {E} {m} {r} {n} {s} v = record {
   nodes = v .nodes;
   slots = v .slots;
   accepted = accepts (v .sound);
-  mild = mild (v .sound);
+  mild = answers (v .sound);
   unchanged = leaves (v .sound);
   spares = λ c x q a. appends-garbage (v .sound) c x q (reach-from (λ n h. omega arith) a);
   garbage = appends-garbage (v .sound);

@@ -1,4 +1,4 @@
--- What is said of an outcome of an editor's step: it is a step of the theory's editor, or changes nothing, and its code is not 1, 2 or 7.
+-- What is said of an outcome of an editor's step: it is a step of the theory's editor, or changes nothing, and its code is mild.
 -- Codes before the walk, and the walk: from a ready state they refuse mildly, or the place names a node.
 use Prim.Native.Nat.{ℕ, zero, suc, _/_, _%_, _<_}
 use mathlib.Core.Path.{_≡_, refl, sym}
@@ -14,7 +14,7 @@ use Rattle.rules.specs.Table.{State, sides, Outcome, refuse, unless, edgeOf, ed
 use Rattle.rules.specs.Records.{withOwed, withLast}
 use Rattle.rules.specs.Check.{check}
 use Rattle.rules.specs.Places.{base, placeCode, start, walkFrom, walk, arrive}
-use Rattle.rules.specs.Editor.{sideCode, owedCode}
+use Rattle.rules.specs.Editor.{owedCode}
 use Rattle.rules.specs.Steps.{codeOf}
 use Rattle.rules.specs.declared.Record.{Record}
 use Rattle.rules.specs.declared.Place.{Place}
@@ -29,6 +29,7 @@ use Rattle.theory.proofs.Steps as S
 use S.{other, Deed, nothing, EStep, rest}
 use Rattle.runs.specs.Demand.{Mild}
 use Rattle.runs.proofs.Picks.{if-no}
+use Rattle.runs.proofs.Codes.{mild, Milds, mild-first}
 use Rattle.runs.proofs.Bill.{kind}
 use Rattle.runs.proofs.Sound.{owes, stateIn, abs, top, Fits, Ready}
 use Rattle.runs.proofs.Made.{act, blackens}
@@ -69,36 +70,13 @@ refused {E} {s} f code node h = record {
   same = same (s .rec) (s .rec .owed) (s .rec .last);
 }
 
--- each of the codes is mild
-abbrev pub Milds : List ℕ → Type 0
-Milds [] = Unit {0}
-Milds (c ∷ cs) = Mild c × Milds cs
-
-pub mild-first : (cs : List ℕ) → Milds cs → Mild (first cs)
-unfolding first
-mild-first [] h = omega arith
-mild-first (c ∷ cs) h = split Mild _ _ _ (λ q. mild-first cs (h .1)) (λ q. h .0)
-
 -- the codes given before the walk
 pub unless-edited : {E : ℕ} {s : State} {ph : S.Phase} → Ready E s ph → (cs : List ℕ) (o : Outcome) → Milds cs → (Zeros cs → Edited E s ph o)
     → Edited E s ph (unless (first (check s ∷ cs)) s o)
 unfolding unless
 unless-edited {E} {s} {ph} g cs o h k =
     split (Edited E s ph) _ _ _ (λ q. k (zeros (check s ∷ cs) (sym (eqb-true _ _ q)) .1))
-    (λ q. refused (g .fits) _ 0 (mild-first (check s ∷ cs) (rw (← g .good) (omega arith), h)))
-
-pub mild-place : (e r : ℕ) (p : Place) → Mild (placeCode e r p)
-unfolding placeCode
-mild-place e r p = split Mild _ _ _ (λ a. split Mild _ _ _ (λ b. omega arith) (λ b. omega arith)) (λ a. omega arith)
-
-pub mild-side : (e side : ℕ) → Mild (sideCode e side)
-unfolding sideCode
-mild-side e side = split Mild _ _ _ (λ a. omega arith) (λ a. omega arith)
-
-pub mild-owed : (o : Owed) → Mild (owedCode o)
-unfolding owedCode
-mild-owed Nothing = omega arith
-mild-owed (Node n) = omega arith
+    (λ q. refused (g .fits) _ 0 (mild-first (check s ∷ cs) (rw (← g .good) (mild refl), h)))
 
 pub none-owed : (o : Owed) → 0 ≡ owedCode o → owes o ≡ none
 unfolding owedCode

@@ -16,9 +16,10 @@ use Rattle.theory.proofs.Reaches.{Named, named-reached}
 use Rattle.theory.proofs.Steps as S
 use S.{nothing, links, rest}
 use Rattle.theory.proofs.Shapes.{reached-inside}
+use Rattle.runs.proofs.Codes.{mild, mild-place, mild-side, mild-owed}
 use Rattle.runs.proofs.Tables.{EdgeMoved, edge-moved}
 use Rattle.runs.proofs.Sound.{owes, top, Ready, sizes}
-use Rattle.runs.proofs.Edited.{Edited, same, refused, unless-edited, mild-place, mild-side, mild-owed, none-owed, walked, arrived}
+use Rattle.runs.proofs.Edited.{Edited, same, refused, unless-edited, none-owed, walked, arrived}
 
 module _ {E : ℕ} {s : State} {ph : S.Phase} (g : Ready E s ph) where
   pub look-edited : (p : Place) → Edited E s ph (look p s)
@@ -26,7 +27,7 @@ module _ {E : ℕ} {s : State} {ph : S.Phase} (g : Ready E s ph) where
   look-edited p = unless-edited g _ _ (mild-place (sides s) (s .rec .r) p, tt) (λ z. arrived g _ (walked g p (z .0)) (λ n a. record {
     deed = nothing;
     made = rest;
-    code = omega arith;
+    code = mild refl;
     appends = refl;
     blackens = refl;
     fits = g .fits;
@@ -46,7 +47,7 @@ module _ {E : ℕ} {s : State} {ph : S.Phase} (g : Ready E s ph) where
   pub departed : (p : Place) (go : ℕ → Outcome) → 0 ≡ placeCode (sides s) (s .rec .r) p → ((n : ℕ) → Named E (top s) (edge s) n → n ≢ 0 → Edited E s ph (go n))
       → Edited E s ph (depart s p go)
   unfolding depart
-  departed p go z k = arrived g _ (walked g p z) (λ n a. split (Edited E s ph) _ _ _ (λ e. refused (g .fits) 8 0 (omega arith)) (λ e. k n a (eqb-false n 0 e)))
+  departed p go z k = arrived g _ (walked g p z) (λ n a. split (Edited E s ph) _ _ _ (λ e. refused (g .fits) 8 0 (mild refl)) (λ e. k n a (eqb-false n 0 e)))
 
   linked : (side n : ℕ) (q : Place) → side < E → 0 ≡ placeCode (sides s) (s .rec .r) q → owes (s .rec .owed) ≡ none → Named E (top s) (edge s) n → n ≢ 0
       → Edited E s ph (linkTo s side q n)
@@ -54,7 +55,7 @@ module _ {E : ℕ} {s : State} {ph : S.Phase} (g : Ready E s ph) where
   linked side n q h z o a n0 = arrived g _ (walked g q z) (λ t b. let em = moves side n t h a in record {
     deed = links side n t;
     made = rw (o, em .colour) (S.link record { side = h; source = a; present = n0; target = b; moved = em .moved });
-    code = omega arith;
+    code = mild refl;
     appends = refl;
     blackens = refl;
     fits = rw (em .colour) (omega (arith, g .fits));

@@ -24,10 +24,11 @@ use Rattle.theory.proofs.Steps as S
 use S.{pays, takes, Takes, shaded, emptied}
 use Rattle.theory.proofs.Facts.{owed-lies, first-lies, next-lies}
 use Rattle.runs.proofs.Picks.{if-yes, if-no}
+use Rattle.runs.proofs.Codes.{mild, mild-place, mild-side, mild-owed}
 use Rattle.runs.proofs.Tables.{rows-kept, shade-is, length-shade, EdgeMoved, edge-moved}
 use Rattle.runs.proofs.Sound.{owes, top, Ready, sizes}
 use Rattle.runs.proofs.ScanStep.{good-colour}
-use Rattle.runs.proofs.Edited.{Edited, same, refused, unless-edited, mild-place, mild-side, mild-owed, none-owed}
+use Rattle.runs.proofs.Edited.{Edited, same, refused, unless-edited, none-owed}
 use Rattle.runs.proofs.LinkStep.{moves, departed}
 
 -- an edge of the free chain that is good
@@ -40,11 +41,11 @@ good-free m r e (inr q) h =
 module _ {E : ℕ} {s : State} {ph : S.Phase} (g : Ready E s ph) where
   paid : (o : Owed) → owes (s .rec .owed) ≡ owes o → Edited E s ph (pay s o)
   unfolding pay
-  paid Nothing q = refused (g .fits) 6 0 (omega arith)
+  paid Nothing q = refused (g .fits) 6 0 (mild refl)
   paid (Node t) q = if-no (Edited E s ph) _ _ _ (good-colour (g .fits) (g .inv .hues) t) record {
     deed = pays t;
     made = rw q (S.pay (shade-is (s .colour) t (omega (arith, g .fits .colours, owed-lies (sizes (g .fits)) (g .inv) q))));
-    code = omega arith;
+    code = mild refl;
     appends = refl;
     blackens = refl;
     fits = omega (arith, g .fits, length-shade (s .colour) t);
@@ -119,7 +120,7 @@ module _ {E : ℕ} {s : State} {ph : S.Phase} (g : Ready E s ph) where
     took-last f0 y0 = record {
       deed = takes side n f y;
       made = rw (o, colour₃) (S.take (three f0) shaded-f (emptied y0));
-      code = omega arith;
+      code = mild refl;
       appends = refl;
       blackens = refl;
       fits = rw colour₃ (omega (arith, g .fits, length-shade (s .colour) f));
@@ -132,7 +133,7 @@ module _ {E : ℕ} {s : State} {ph : S.Phase} (g : Ready E s ph) where
     took f0 y0 = record {
       deed = takes side n f y;
       made = rw (o, colour₃) (S.take (three f0) shaded-f (shaded y0 (shade-is (shadeIn (s .colour) f) y y-inside)));
-      code = omega arith;
+      code = mild refl;
       appends = refl;
       blackens = refl;
       fits = rw colour₃ (omega (arith, g .fits, length-shade (s .colour) f, length-shade (shadeIn (s .colour) f) y));
@@ -143,7 +144,7 @@ module _ {E : ℕ} {s : State} {ph : S.Phase} (g : Ready E s ph) where
     taken : Edited E s ph (takeFirst s side f n)
     unfolding takeFirst takeNext
     taken = if-no (Edited E s ph) _ _ _ (good-free _ _ f (first-lies (g .inv)) (omega (arith, g .fits .m-low))) (split (Edited E s ph) _ _ _
-        (λ e. refused (g .fits) 9 0 (omega arith))
+        (λ e. refused (g .fits) 9 0 (mild refl))
         (λ e. let f0 = eqb-false f 0 e in
         if-no (Edited E s ph) _ _ _ (good-free _ _ y (next-lies (g .inv) f0) (omega (arith, g .fits .m-low)))
         (if-no (Edited E s ph) _ _ _ (good-colour (g .fits) (g .inv .hues) f)
