@@ -15,12 +15,12 @@ use Rattle.rules.specs.declared.Step.{Step}
 use Rattle.theory.proofs.Steps as S
 use S.{Tick, goes, ends, CStep}
 use Rattle.theory.proofs.Keep.{keep-editor}
-use Rattle.runs.specs.Runs.{after, collector, lastAppend, completes}
+use Rattle.runs.specs.Runs.{after, collector, kind, lastAppend, completes}
 use Rattle.runs.specs.Demand.{Mild}
 use Rattle.runs.proofs.Picks.{if-no}
 use Rattle.runs.proofs.Codes.{mild, mild-first}
 use Rattle.runs.proofs.Tables.{rows-kept}
-use Rattle.runs.proofs.Bill.{kind, bill-edit}
+use Rattle.runs.proofs.Bill.{bill-edit}
 use Rattle.runs.proofs.Sound.{abs, top, Sound, sizes, Ready, ready}
 use Rattle.runs.proofs.Made.{act, blackens, Ticked, on, over, Made}
 use Rattle.runs.proofs.AppendStep.{collect-made, sound-made}
@@ -68,11 +68,11 @@ stepped {E} c s g = go (collector c) refl
         done : {t : Tick} → CStep E (s .rec .m) (top s) (abs E s) (abs E (after c s)) (act (step c s .answer)) t → Collected E c s t
         done d = record { kind = h; made = d; code = k .code; nodes = k .nodes; slots = k .slots; sound = sound-made g k }
 
-        test : (b : Bool) → lastAppend (s .rec .m) (s .rec .phase) ≡ b → completes c s ≡ b
-        test b e = sym (every-skip _ _ _ (sym h) (every-last _ _ (sym e)))
+        test : (b : Bool) → lastAppend (s .rec .m) (kind E (s .rec .phase)) ≡ b → completes c s ≡ b
+        test b e = rw (g .rows .count) (sym (every-skip _ _ _ (sym h) (every-last _ _ (sym e))))
 
         by : {t : Tick} → CStep E (s .rec .m) (top s) (abs E s) (abs E (after c s)) (act (step c s .answer)) t
-            → Ticked (s .rec) (after c s .rec) (s .rec .phase) (step c s .answer) t → Stepped E c s
+            → Ticked (s .rec) (after c s .rec) (kind E (s .rec .phase)) (step c s .answer) t → Stepped E c s
         by d (on e a b x) = goes-on (test false e) a b x (done d)
         by d (over e a b) = closes (test true e) a b (done d)
     go false h = edits (sym (every-here _ _ (sym h))) h (edits-is c s (ready g) h)
@@ -83,7 +83,7 @@ sound-edited {E} {s} g e = record {
   fits = e .fits;
   inv = rw (e .same .m, e .same .r) (keep-editor (sizes (g .fits)) (made-there e) (g .inv));
   bill = rw (e .same .m, e .same .r, e .same .phase, e .same .steps, e .same .blackened)
-      (bill-edit (sizes (g .fits)) (made-there e) (g .inv) {ph = s .rec .phase} refl (g .bill));
+      (bill-edit (sizes (g .fits)) (made-there e) (g .inv) refl (g .bill));
 }
 
 pub sound-step : {E : ℕ} (c : Step) (s : State) → Sound E s → Sound E (after c s)

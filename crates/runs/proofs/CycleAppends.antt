@@ -9,18 +9,17 @@ use native.Mathlib.Omega.{arith}
 use Rattle.rules.specs.Table.{State, colourOf, white}
 use Rattle.rules.specs.Steps.{step, run}
 use Rattle.rules.specs.declared.Step.{Step}
-use Rattle.rules.specs.declared.Phase.{Phase}
-use Rattle.rules.specs.declared.Phase.the-variants.{Roots, Scan, Left, Right, Black, Append}
+use Rattle.rules.specs.declared.Phase.the-variants.{Roots, Append}
 use Rattle.theory.specs.Free.{Mem}
 use Rattle.theory.proofs.Steps as S
 use S.{Act, other, Tick, goes, ends, CStep, root, last-root, look, find, no-gray, edge, blacken, whiten, append}
 use Rattle.theory.proofs.Cycle as C
 use C.{Rest}
 use Rattle.theory.proofs.Sweep.{Exactly, appends-white}
-use Rattle.runs.specs.Runs.{after}
+use Rattle.runs.specs.Runs.{after, kind}
 use Rattle.runs.specs.Demand.{RootReaches}
 use Rattle.runs.proofs.Tables.{reach-from}
-use Rattle.runs.proofs.Bill.{kind}
+use Rattle.runs.proofs.Phases.{view, is-append}
 use Rattle.runs.proofs.Sound.{abs, Sound, sizes}
 use Rattle.runs.proofs.Made.{act}
 use Rattle.runs.proofs.AnyStep.{Stepped, goes-on, closes, edits, stepped, sound-step}
@@ -58,22 +57,6 @@ early-goes : {E m t : ℕ} {σ σ′ : S.State} {a : Act} → CStep E m t σ σ�
 early-goes d k =
     let q = early-next d k .1 in
     absurd (let z : _≡_ {A = ℕ} 0 1 = cc in omega arith)
-
--- how far the appending is, 0 before it
-abbrev swept : S.Phase → ℕ
-swept (S.Rooting i) = 0
-swept S.Seeking = 0
-swept (S.Working i j) = 0
-swept (S.Holding i j n) = 0
-swept (S.Appending i) = suc i
-
-appends-first : (E : ℕ) (ph : Phase) → kind E ph ≡ S.Appending 0 → ph ≡ Append 0
-appends-first E (Roots i) q = absurd (omega (arith, ap swept q))
-appends-first E (Scan i k) q = absurd (omega (arith, ap swept q))
-appends-first E (Left i) q = absurd (omega (arith, ap swept q))
-appends-first E (Right i) q = absurd (omega (arith, ap swept q))
-appends-first E (Black i) q = absurd (omega (arith, ap swept q))
-appends-first E (Append i) q = let z : i ≡ 0 = omega (arith, ap swept q) in ap Append z
 
 -- a cycle's steps up to its appending, which append nothing, and those from there on
 pub record Parts (cs : List Step) (s : State) : Type 0 where
@@ -113,7 +96,7 @@ parts {E} (more {c = c} {cs = cs} {s = s} e t) g k = go (stepped c s g) (parts t
           before = [];
           rest = cs;
           all = refl;
-          begins = appends-first E (after c s .rec .phase) q;
+          begins = is-append (view (g .fits .few) (after c s .rec .phase)) q;
           to-end = t;
           nothing = refl;
         }

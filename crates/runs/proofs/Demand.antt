@@ -9,8 +9,6 @@ use Rattle.rules.specs.Table.{State, edge, colourOf}
 use Rattle.rules.specs.Check.{bound}
 use Rattle.rules.specs.Steps.{step, codeOf}
 use Rattle.rules.specs.declared.Step.{Step}
-use Rattle.rules.specs.declared.Phase.{Phase}
-use Rattle.rules.specs.declared.Phase.the-variants.{Roots, Scan, Left, Right, Black, Append}
 use Rattle.rules.specs.declared.Answer.the-variants.{Appended}
 use Rattle.theory.specs.Reach.{Reach, Root, Slot, Garbage}
 use Rattle.theory.proofs.Steps as S
@@ -18,12 +16,13 @@ use S.{Tick}
 use Rattle.theory.proofs.Safe as A
 use A.{untouched}
 use Rattle.theory.proofs.Facts as F
-use Rattle.theory.proofs.Invariant.{Free, at-roots}
+use Rattle.theory.proofs.Invariant.{Inv, Free, at-roots}
 use Rattle.runs.specs.Runs.{after, collector, Count, begun}
 use Rattle.runs.specs.Demand.{RootReaches, SlotReaches, Mild, FreeNodes, Demand, Demand-3}
 use Rattle.runs.proofs.Codes.{mild}
 use Rattle.runs.proofs.Tables.{Rows, reach-from}
-use Rattle.runs.proofs.Sound.{owes, top, InvIn, Sound, sizes, Ready, ready}
+use Rattle.runs.proofs.Phases.{view, is-append}
+use Rattle.runs.proofs.Sound.{owes, stateIn, top, Sound, sizes, Ready, ready}
 use Rattle.runs.proofs.AnyStep.{Collected, Stepped, goes-on, closes, edits, stepped}
 use Rattle.runs.proofs.Counting.{Carried, carried-run, ends-within, appended-within}
 use Rattle.runs.proofs.Starts.{starts}
@@ -40,14 +39,13 @@ module _ {E m : ℕ} (s : State) (w : Rows E m (s .edges)) {x : ℕ} where
   garbage-there h a = h (rw (w .count) (reach-from (λ n h. omega arith) a))
 
 -- up to the appending; while the roots are shaded no node is black
-no-black-to-white : {E : ℕ} (s : State) (ph : Phase) → InvIn E s ph → ((i : ℕ) → ph ≢ Append i) → owes (s .rec .owed) ≡ none
-    → (e x : ℕ) → e < E → colourOf s x ≡ 2 → colourOf s (edge s e x) ≢ 0
-no-black-to-white s (Roots i) v h o e x he b = absurd (at-roots (v .in-phase) .no-black x b)
-no-black-to-white s (Scan i k) v h o e x he b = F.no-black-to-white v F.seeking o x e he b
-no-black-to-white s (Left i) v h o e x he b = F.no-black-to-white v F.working o x e he b
-no-black-to-white s (Right i) v h o e x he b = F.no-black-to-white v F.working o x e he b
-no-black-to-white s (Black i) v h o e x he b = F.no-black-to-white v F.working o x e he b
-no-black-to-white s (Append i) v h o e x he b = absurd (h i refl)
+no-black-to-white : {E : ℕ} (s : State) (ph : S.Phase) → Inv E (s .rec .m) (top s) (stateIn s ph) → ((i : ℕ) → ph ≢ S.Appending i)
+    → owes (s .rec .owed) ≡ none → (e x : ℕ) → e < E → colourOf s x ≡ 2 → colourOf s (edge s e x) ≢ 0
+no-black-to-white s (S.Rooting i) v h o e x he b = absurd (at-roots (v .in-phase) .no-black x b)
+no-black-to-white s S.Seeking v h o e x he b = F.no-black-to-white v F.seeking o x e he b
+no-black-to-white s (S.Working i j) v h o e x he b = F.no-black-to-white v F.working o x e he b
+no-black-to-white s (S.Holding i j n) v h o e x he b = F.no-black-to-white v F.holding o x e he b
+no-black-to-white s (S.Appending i) v h o e x he b = absurd (h i refl)
 
 module _ {E : ℕ} {s : State} (g : Sound E s) where
   accepts : (c : Step) → collector c ≡ true → codeOf (step c s .answer) ≡ 0
@@ -127,7 +125,9 @@ demand {E} {m} {r} {n} {s} v = record {
       let u = subst (λ r. Garbage E (suc (suc r)) (edge s) x) (v .slots) (garbage-there s (v .sound .rows) a) in
       appended-within v x hx u cs (omega (arith, l));
   free = free-nodes (ready (v .sound));
-  no-black-to-white = λ h o side x l b. no-black-to-white s (s .rec .phase) (v .sound .inv) h (ap owes o) side x (omega (arith, l, v .sound .rows .count)) b;
+  no-black-to-white = λ h o side x l b.
+      no-black-to-white s _ (v .sound .inv) (λ i q. h i (is-append (view (v .sound .fits .few) (s .rec .phase)) q)) (ap owes o) side x
+      (omega (arith, l, v .sound .rows .count)) b;
 }
   where
     same-bound : bound E (s .rec .m) (s .rec .r) ≡ bound E m r

@@ -27,10 +27,10 @@ use Rattle.theory.specs.Reach as R
 use Rattle.theory.proofs.Reaches.{Named}
 use Rattle.theory.proofs.Steps as S
 use S.{other, Deed, nothing, EStep, rest}
+use Rattle.runs.specs.Runs.{kind}
 use Rattle.runs.specs.Demand.{Mild}
 use Rattle.runs.proofs.Picks.{if-no}
 use Rattle.runs.proofs.Codes.{mild, Milds, mild-first}
-use Rattle.runs.proofs.Bill.{kind}
 use Rattle.runs.proofs.Sound.{owes, stateIn, abs, top, Fits, Ready}
 use Rattle.runs.proofs.Made.{act, blackens}
 use Rattle.runs.proofs.WorkStep.{good-edge}
