@@ -79,6 +79,13 @@ fn record_of(m: u16, r: u16, last: u16) -> Record
     }
 }
 
+// The record where there is no table.
+pub fn no_table() -> Record
+    ensures { λ x. ⌜ x ≡ freshRecord 0 0 0 ⌝ }
+{
+    record_of(0, 0, 0)
+}
+
 // A fresh table of m nodes and r slots, and its record. Refused: 1.
 pub fn fresh(left: &mut [u16], right: &mut [u16], colour: &mut [u8], m: usize, r: usize) -> Made
     ensures { λ d. ⌜ outcome d (now (left .exit)) (now (right .exit)) (now (colour .exit)) ≡ fresh m r (now (left .entry) ∷ now (right .entry) ∷ []) (now (colour .entry)) ⌝ }
@@ -86,7 +93,7 @@ pub fn fresh(left: &mut [u16], right: &mut [u16], colour: &mut [u8], m: usize, r
     if !rules::size_ok(m, r, left.len(), right.len(), colour.len()) {
         return Made {
             answer: Answer::Refused(1, 0),
-            rec: record_of(0, 0, 0),
+            rec: no_table(),
         };
     }
     let nodes = m as u16;

@@ -1,7 +1,5 @@
 // What a line of the schedule program does: the first, and a later one. The definitions are in specs/.
 use rules::Made;
-use rules::Owed;
-use rules::Phase;
 use rules::Ran;
 use rules::Record;
 use text::Said;
@@ -131,19 +129,11 @@ fn start(left: &mut [u16], right: &mut [u16], colour: &mut [u8], m: usize, r: us
 fn refused(code: u8) -> Told
     ensures { λ t. ⌜ prints (t .code) (t .node) (state [] [] [] (t .rec)) ≡ prints code 0 noTable ⌝ }
 {
-    let rec = Record {
-        m: 0,
-        r: 0,
-        phase: Phase::Roots(0),
-        owed: Owed::Nothing,
-        last: 0,
-        steps: 0,
-        cycles: 0,
-        took: 0,
-        blackened: 0,
-        inuse: 0,
-    };
-    Told { code, node: 0, rec }
+    Told {
+        code,
+        node: 0,
+        rec: fresh::no_table(),
+    }
 }
 
 // A fresh table of m nodes and r slots in tables of 4,096 entries.

@@ -6,6 +6,7 @@ use lib.ListN.{getD}
 use Rattle.rules.specs.declared.Record.{Record}
 use Rattle.rules.specs.declared.Phase.the-variants.{Scan}
 use Rattle.rules.specs.Table.{state}
+use Rattle.rules.specs.Records.{withPhase, withSteps, withBlackened}
 use Rattle.skim.specs.Stirs.{stirs}
 use Rattle.strides.specs.Leads.{Passes, Leads, Fit}
 use Rattle.mark.specs.declared.Spot.{Spot}
@@ -13,7 +14,7 @@ use Rattle.mark.specs.declared.Spot.{Spot}
 -- the record at s
 unfoldable pub standing : Record → Spot → Record
 standing x s =
-    record { m = x .m; r = x .r; phase = Scan (s .i) (s .k); owed = x .owed; last = x .last; steps = x .steps + s .d; cycles = x .cycles; took = x .took; blackened = s .dark; inuse = x .inuse }
+    withPhase (withBlackened (withSteps x (x .steps + s .d)) (s .dark)) (Scan (s .i) (s .k))
 
 -- what is known where the marking stands
 pub record Known (l k c : List ℕ) (x : Record) (cap : ℕ) (s : Spot) : Type 0 where

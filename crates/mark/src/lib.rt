@@ -22,23 +22,13 @@ struct Spot {
     lit: usize,
 }
 
-fn standing(x: Record, s: Spot) -> Record
+fn standing(mut x: Record, s: Spot) -> Record
     requires { ⌜ (s .i < 4096) × ((s .k ≤ 4096) × ((s .dark ≤ 4096) × (x .steps + s .d < 20000000))) ⌝ }
     ensures { λ r. ⌜ r ≡ standing x s ⌝ }
 {
-    let owed = x.owed;
-    Record {
-        m: x.m,
-        r: x.r,
-        phase: Phase::Scan(s.i as u16, s.k as u16),
-        owed,
-        last: x.last,
-        steps: x.steps + s.d as u32,
-        cycles: x.cycles,
-        took: x.took,
-        blackened: s.dark as u16,
-        inuse: x.inuse,
-    }
+    x.steps = x.steps + s.d as u32;
+    x.blackened = s.dark as u16;
+    x.with_phase(Phase::Scan(s.i as u16, s.k as u16))
 }
 
 // n modulo m, for n below two rounds.

@@ -9,9 +9,9 @@ use borrow.Author.Tests.{eqb-true, eqb-false}
 use Rattle.base.proofs.Tests.{each, not-yes}
 use Rattle.base.specs.Choice.{pick, every, first}
 use Rattle.rules.specs.Table.{State, sides, Outcome, state, did, refuse, unless, black, left, right, edgeOf, edge, withEdge, cleared, colourOf, withColour, shadeIn, shade, badEdge}
-use Rattle.rules.specs.Records.{withLast, owing, moved, marked, rescan, oneMore, afterAppend}
+use Rattle.rules.specs.Records.{withPhase, withOwed, withLast, withSteps, withInuse, owing, moved, marked, rescan, oneMore, afterAppend}
 use Rattle.rules.specs.Check.{sizeOk, phaseOk, owedOk, lastOk, bound, countsOk, recordOk, checkOf, check}
-use Rattle.rules.specs.Fresh.{tabulate, nextFree, freshLeft, freshLast, freshState, fresh}
+use Rattle.rules.specs.Fresh.{tabulate, nextFree, freshLeft, freshLast, freshRecord, freshState, fresh}
 use Rattle.rules.specs.Places.{sidesOk, turnsOk, placeCode, walkFrom, walk, arrive}
 use Rattle.rules.specs.Editor.{sideCode, owedCode, look, depart, linkTo, link, pay, shadeOwed, badFree, relink, takeNext, takeFirst, take}
 use Rattle.rules.specs.Collector.{shadeStep, afterRoots, scanStep, edgeStep, blackStep, append, appendWhite, appendStep, phaseStep, collect}
@@ -48,20 +48,15 @@ writesNothing = kind 3 (λ a s. did (step a s .answer) s (step a s .state .rec))
 abbrev honestOnce : Step → State → Outcome
 honestOnce = kind 3 (λ a s. pick (eqb (s .rec .cycles) 0) (step a s) (writesNothing a s))
 
--- the record with other counts
-abbrev counted : Record → ℕ → ℕ → Record
-counted x steps inuse =
-    record { m = x .m; r = x .r; phase = x .phase; owed = x .owed; last = x .last; steps = steps; cycles = x .cycles; took = x .took; blackened = x .blackened; inuse = inuse }
-
 abbrev inRecord : (Record → Record) → Outcome → Outcome
 inRecord f o = did (o .answer) (o .state) (f (o .state .rec))
 
 -- "one with invented step counts or nodes in use"
 abbrev inventsSteps : Step → State → Outcome
-inventsSteps = kind 3 (λ a s. inRecord (λ x. counted x (x .steps + 1) (x .inuse)) (step a s))
+inventsSteps = kind 3 (λ a s. inRecord (λ x. withSteps x (x .steps + 1)) (step a s))
 
 abbrev inventsInUse : Step → State → Outcome
-inventsInUse = kind 3 (λ a s. inRecord (λ x. counted x (x .steps) (x .m)) (step a s))
+inventsInUse = kind 3 (λ a s. inRecord (λ x. withInuse x (x .m)) (step a s))
 
 -- "Shading before the edge moves": Link shades, and leaves the edge for later
 abbrev shadesFirst : Step → State → Outcome
@@ -158,8 +153,7 @@ litter = run (collects 56) (run (taking (at 0 0) 0 ∷ taking (at 1 0) 1 ∷ lin
 
 -- a record of five nodes at a phase
 abbrev made : Phase → Owed → ℕ → ℕ → Record
-made p o last steps =
-    record { m = 5; r = 1; phase = p; owed = o; last = last; steps = steps; cycles = 0; took = 0; blackened = 0; inuse = 0 }
+made p o last steps = withSteps (withOwed (withPhase (freshRecord 5 1 last) p) o) steps
 
 abbrev invented : Record → State
 invented x = state (0 ∷ 3 ∷ 0 ∷ 4 ∷ 0 ∷ []) (0 ∷ 0 ∷ 9 ∷ 0 ∷ 0 ∷ []) (0 ∷ 0 ∷ 0 ∷ 0 ∷ 0 ∷ []) x

@@ -17,17 +17,56 @@ position (Right i) = i
 position (Black i) = i
 position (Append i) = i
 
+-- The one list of the fields: x with these in place of its own. M and R stay as Fresh made them.
+abbrev pub remade : Record → Phase → Owed → ℕ → ℕ → ℕ → ℕ → ℕ → ℕ → Record
+remade x phase owed last steps cycles took blackened inuse =
+    record {
+      m = x .m;
+      r = x .r;
+      phase = phase;
+      owed = owed;
+      last = last;
+      steps = steps;
+      cycles = cycles;
+      took = took;
+      blackened = blackened;
+      inuse = inuse;
+    }
+
+-- where the record stands: the counts stay
+abbrev placed : Record → Phase → Owed → ℕ → Record
+placed x phase owed last =
+    remade x phase owed last (x .steps) (x .cycles) (x .took) (x .blackened) (x .inuse)
+
+-- the counts
+abbrev counted : Record → ℕ → ℕ → ℕ → ℕ → ℕ → Record
+counted x steps cycles took blackened inuse =
+    remade x (x .phase) (x .owed) (x .last) steps cycles took blackened inuse
+
+-- one field
 abbrev pub withPhase : Record → Phase → Record
-withPhase x p =
-    record { m = x .m; r = x .r; phase = p; owed = x .owed; last = x .last; steps = x .steps; cycles = x .cycles; took = x .took; blackened = x .blackened; inuse = x .inuse }
+withPhase x p = placed x p (x .owed) (x .last)
 
 abbrev pub withOwed : Record → Owed → Record
-withOwed x o =
-    record { m = x .m; r = x .r; phase = x .phase; owed = o; last = x .last; steps = x .steps; cycles = x .cycles; took = x .took; blackened = x .blackened; inuse = x .inuse }
+withOwed x o = placed x (x .phase) o (x .last)
 
 abbrev pub withLast : Record → ℕ → Record
-withLast x n =
-    record { m = x .m; r = x .r; phase = x .phase; owed = x .owed; last = n; steps = x .steps; cycles = x .cycles; took = x .took; blackened = x .blackened; inuse = x .inuse }
+withLast x n = placed x (x .phase) (x .owed) n
+
+abbrev pub withSteps : Record → ℕ → Record
+withSteps x n = counted x n (x .cycles) (x .took) (x .blackened) (x .inuse)
+
+abbrev pub withCycles : Record → ℕ → Record
+withCycles x n = counted x (x .steps) n (x .took) (x .blackened) (x .inuse)
+
+abbrev pub withTook : Record → ℕ → Record
+withTook x n = counted x (x .steps) (x .cycles) n (x .blackened) (x .inuse)
+
+abbrev pub withBlackened : Record → ℕ → Record
+withBlackened x n = counted x (x .steps) (x .cycles) (x .took) n (x .inuse)
+
+abbrev pub withInuse : Record → ℕ → Record
+withInuse x n = counted x (x .steps) (x .cycles) (x .took) (x .blackened) n
 
 -- "the target's shade is owed"
 abbrev pub owing : Record → ℕ → Record
@@ -39,13 +78,11 @@ paid x = withOwed x Nothing
 
 -- "Every collector step that is done counts one." The phase is p now.
 abbrev pub moved : Record → Phase → Record
-moved x p =
-    record { m = x .m; r = x .r; phase = p; owed = x .owed; last = x .last; steps = x .steps + 1; cycles = x .cycles; took = x .took; blackened = x .blackened; inuse = x .inuse }
+moved x p = withSteps (withPhase x p) (x .steps + 1)
 
 -- "Append 0, and nodes in use is set": it "is the number of nodes blackened in the last completed marking"
 abbrev pub marked : Record → Record
-marked x =
-    record { m = x .m; r = x .r; phase = Append 0; owed = x .owed; last = x .last; steps = x .steps + 1; cycles = x .cycles; took = x .took; blackened = x .blackened; inuse = x .blackened }
+marked x = withInuse (moved x (Append 0)) (x .blackened)
 
 -- "the next i (modulo M)"
 abbrev pub next : Record → ℕ → ℕ
@@ -53,8 +90,7 @@ next x i = (i + 1) % x .m
 
 -- "add one to nodes blackened, then Scan at the next i (modulo M) with k = M"
 abbrev pub rescan : Record → ℕ → Record
-rescan x i =
-    record { m = x .m; r = x .r; phase = Scan (next x i) (x .m); owed = x .owed; last = x .last; steps = x .steps + 1; cycles = x .cycles; took = x .took; blackened = x .blackened + 1; inuse = x .inuse }
+rescan x i = withBlackened (moved x (Scan (next x i) (x .m))) (x .blackened + 1)
 
 -- "cycles completed (32 bits, stays at its largest value)"
 unfoldable pub oneMore : ℕ → ℕ
@@ -63,7 +99,8 @@ oneMore n = pick (ltb n 4294967295) (n + 1) n
 -- "the cycle is complete: the steps become the last cycle's count, steps and blackened become 0, Roots 0"; this step is counted
 abbrev pub closed : Record → Record
 closed x =
-    record { m = x .m; r = x .r; phase = Roots 0; owed = x .owed; last = x .last; steps = 0; cycles = oneMore (x .cycles); took = x .steps + 1; blackened = 0; inuse = x .inuse }
+    let told = withCycles (withTook x (x .steps + 1)) (oneMore (x .cycles)) in
+    withPhase (withBlackened (withSteps told 0) 0) (Roots 0)
 
 -- "After i = M − 1 the cycle is complete", before it Append at the next i
 unfoldable pub afterAppend : Record → ℕ → Record

@@ -248,10 +248,10 @@ fn one_more(n: u32) -> u32
 }
 
 impl Record {
-    fn with_phase(self, phase: Phase) -> Record
-        ensures { λ r. ⌜ r ≡ withPhase self phase ⌝ }
+    // The record made anew: a field that is an enum cannot be stored to.
+    fn placed(self, phase: Phase, owed: Owed) -> Record
+        ensures { λ r. ⌜ r ≡ withOwed (withPhase self phase) owed ⌝ }
     {
-        let owed = self.owed;
         Record {
             m: self.m,
             r: self.r,
@@ -266,22 +266,18 @@ impl Record {
         }
     }
 
+    pub fn with_phase(self, phase: Phase) -> Record
+        ensures { λ r. ⌜ r ≡ withPhase self phase ⌝ }
+    {
+        let owed = self.owed;
+        self.placed(phase, owed)
+    }
+
     fn with_owed(self, owed: Owed) -> Record
         ensures { λ r. ⌜ r ≡ withOwed self owed ⌝ }
     {
         let phase = self.phase;
-        Record {
-            m: self.m,
-            r: self.r,
-            phase,
-            owed,
-            last: self.last,
-            steps: self.steps,
-            cycles: self.cycles,
-            took: self.took,
-            blackened: self.blackened,
-            inuse: self.inuse,
-        }
+        self.placed(phase, owed)
     }
 
     // The shade of node n is owed.

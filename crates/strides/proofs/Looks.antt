@@ -9,7 +9,7 @@ use Rattle.rules.specs.declared.Record.{Record}
 use Rattle.rules.specs.declared.Phase.the-variants.{Scan}
 use Rattle.rules.specs.declared.Answer.the-variants.{Looked}
 use Rattle.rules.specs.Table.{State, state, did, colourOf}
-use Rattle.rules.specs.Records.{moved, next}
+use Rattle.rules.specs.Records.{withPhase, withSteps, moved, next}
 use Rattle.rules.specs.Check.{bound}
 use Rattle.rules.specs.Collector.{scanStep, phaseStep}
 use Rattle.rules.proofs.Good.{good, inside}
@@ -20,8 +20,7 @@ use Rattle.strides.proofs.Strides.{stay, then, step-on}
 
 -- the record after d looks from Scan i, k on
 abbrev pub leapt : Record → ℕ → ℕ → ℕ → Record
-leapt x i k d =
-    record { m = x .m; r = x .r; phase = Scan ((i + d) % x .m) (k - d); owed = x .owed; last = x .last; steps = x .steps + d; cycles = x .cycles; took = x .took; blackened = x .blackened; inuse = x .inuse }
+leapt x i k d = withPhase (withSteps x (x .steps + d)) (Scan ((i + d) % x .m) (k - d))
 
 -- one look
 look : (s : State) (i k : ℕ) → 0 ≡ stop (colourOf s i) → 1 < k → did (Looked i) s (moved (s .rec) (Scan (next (s .rec) i) (k - 1))) ≡ phaseStep s (Scan i k)

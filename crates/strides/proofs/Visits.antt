@@ -14,7 +14,7 @@ use Rattle.rules.specs.declared.Phase.{Phase}
 use Rattle.rules.specs.declared.Phase.the-variants.{Scan, Left, Right, Black}
 use Rattle.rules.specs.declared.Answer.the-variants.{Looked, Shaded, Blackened}
 use Rattle.rules.specs.Table.{State, state, did, colourOf, edgeOf, shadeIn, shade, badEdge}
-use Rattle.rules.specs.Records.{moved, rescan}
+use Rattle.rules.specs.Records.{withSteps, moved, rescan}
 use Rattle.rules.specs.Check.{bound}
 use Rattle.rules.specs.Collector.{shadeStep, scanStep, edgeStep, blackStep, phaseStep}
 use Rattle.rules.proofs.Good.{good}
@@ -23,8 +23,7 @@ use Rattle.strides.proofs.Strides.{then, step-on}
 
 -- the record after the visit of node i
 abbrev pub visited : Record → ℕ → Record
-visited x i =
-    record { m = x .m; r = x .r; phase = Scan ((i + 1) % x .m) (x .m); owed = x .owed; last = x .last; steps = x .steps + 4; cycles = x .cycles; took = x .took; blackened = x .blackened + 1; inuse = x .inuse }
+visited x i = withSteps (rescan x i) (x .steps + 4)
 
 look-gray : (s : State) (i k : ℕ) → colourOf s i ≡ 1 → did (Looked i) s (moved (s .rec) (Left i)) ≡ phaseStep s (Scan i k)
 unfolding phaseStep scanStep

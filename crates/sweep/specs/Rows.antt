@@ -3,6 +3,7 @@ use Prim.Native.Nat.{ℕ, _+_, _≤_}
 use mathlib.Core.Path.{_≡_}
 use mathlib.Core.List.{List}
 use Rattle.rules.specs.Table.{state}
+use Rattle.rules.specs.Records.{withPhase, withLast, withSteps}
 use Rattle.rules.specs.declared.Record.{Record}
 use Rattle.rules.specs.declared.Phase.the-variants.{Roots, Append}
 use Rattle.strides.specs.Leads.{Passes, Room, Leads}
@@ -10,8 +11,7 @@ use Rattle.sweep.specs.declared.Row.{Row}
 
 -- the record d steps after x, which is at Roots i
 unfoldable pub rooted : Record → ℕ → ℕ → Record
-rooted x i d =
-    record { m = x .m; r = x .r; phase = Roots (i + d); owed = x .owed; last = x .last; steps = x .steps + d; cycles = x .cycles; took = x .took; blackened = x .blackened; inuse = x .inuse }
+rooted x i d = withPhase (withSteps x (x .steps + d)) (Roots (i + d))
 
 -- d steps from Roots i on, where at most cap may be made, turn the colours c into c′
 pub record Shades (c : List ℕ) (i cap d : ℕ) (c′ : List ℕ) : Type 0 where
@@ -21,5 +21,4 @@ pub record Shades (c : List ℕ) (i cap d : ℕ) (c′ : List ℕ) : Type 0 wher
 
 -- the record at s
 unfoldable pub swept : Record → Row → Record
-swept x s =
-    record { m = x .m; r = x .r; phase = Append (s .i); owed = x .owed; last = s .last; steps = x .steps + s .d; cycles = x .cycles; took = x .took; blackened = x .blackened; inuse = x .inuse }
+swept x s = withPhase (withLast (withSteps x (x .steps + s .d)) (s .last)) (Append (s .i))

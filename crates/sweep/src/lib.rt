@@ -33,42 +33,21 @@ fn shading(colour: &mut [u8], i: usize, cap: usize) -> usize
     d
 }
 
-fn rooted(x: Record, i: usize, d: usize) -> Record
+fn rooted(mut x: Record, i: usize, d: usize) -> Record
     requires { ⌜ (i + d < 4096) × (x .steps + d < 20000000) ⌝ }
     ensures { λ r. ⌜ r ≡ rooted x i d ⌝ }
 {
-    let owed = x.owed;
-    Record {
-        m: x.m,
-        r: x.r,
-        phase: Phase::Roots((i + d) as u16),
-        owed,
-        last: x.last,
-        steps: x.steps + d as u32,
-        cycles: x.cycles,
-        took: x.took,
-        blackened: x.blackened,
-        inuse: x.inuse,
-    }
+    x.steps = x.steps + d as u32;
+    x.with_phase(Phase::Roots((i + d) as u16))
 }
 
-fn swept(x: Record, s: Row) -> Record
+fn swept(mut x: Record, s: Row) -> Record
     requires { ⌜ (s .i < 4096) × ((s .last < 4096) × (x .steps + s .d < 20000000)) ⌝ }
     ensures { λ r. ⌜ r ≡ swept x s ⌝ }
 {
-    let owed = x.owed;
-    Record {
-        m: x.m,
-        r: x.r,
-        phase: Phase::Append(s.i as u16),
-        owed,
-        last: s.last as u16,
-        steps: x.steps + s.d as u32,
-        cycles: x.cycles,
-        took: x.took,
-        blackened: x.blackened,
-        inuse: x.inuse,
-    }
+    x.steps = x.steps + s.d as u32;
+    x.last = s.last as u16;
+    x.with_phase(Phase::Append(s.i as u16))
 }
 
 // Roots i: at most cap steps, none of them that of the last root.
