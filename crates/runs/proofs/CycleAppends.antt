@@ -72,8 +72,8 @@ unfolding run
 parts {E} (last {c = c} {s = s} e) g k = go (stepped c s g)
   where
     go : Stepped E c s → Parts (c ∷ []) s
-    go (goes-on e₁ a b x d) = absurd (true≢false (sym e ∙ e₁))
-    go (closes e₁ a b d) = absurd (early-goes (d .made) k)
+    go (goes-on e₁ a d) = absurd (true≢false (sym e ∙ e₁))
+    go (closes e₁ a d) = absurd (early-goes (d .made) k)
     go (edits e₁ h d) = absurd (true≢false (sym e ∙ e₁))
 parts {E} (more {c = c} {cs = cs} {s = s} e t) g k = go (stepped c s g) (parts t (sound-step c s g))
   where
@@ -88,7 +88,7 @@ parts {E} (more {c = c} {cs = cs} {s = s} e t) g k = go (stepped c s g) (parts t
     }
 
     go : Stepped E c s → (Early (kind E (after c s .rec .phase)) → Parts cs (after c s)) → Parts (c ∷ cs) s
-    go (goes-on e₁ a b x d) f = by (early-next (d .made) k .0) (early-next (d .made) k .2)
+    go (goes-on e₁ a d) f = by (early-next (d .made) k .0) (early-next (d .made) k .2)
       where
         by : act (step c s .answer) ≡ other → Early (kind E (after c s .rec .phase)) ⊎ (kind E (after c s .rec .phase) ≡ S.Appending 0) → Parts (c ∷ cs) s
         by n (inl y) = on-to n (f y)
@@ -100,7 +100,7 @@ parts {E} (more {c = c} {cs = cs} {s = s} e t) g k = go (stepped c s g) (parts t
           to-end = t;
           nothing = refl;
         }
-    go (closes e₁ a b d) f = absurd (true≢false (sym e₁ ∙ e))
+    go (closes e₁ a d) f = absurd (true≢false (sym e₁ ∙ e))
     go (edits e₁ h d) f = on-to (d .appends) (f (rw (d .same .phase) k))
 
 -- a cycle begins in Roots 0

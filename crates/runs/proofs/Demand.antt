@@ -52,16 +52,16 @@ module _ {E : ℕ} {s : State} (g : Sound E s) where
   accepts c h = go (stepped c s g)
     where
       go : Stepped E c s → codeOf (step c s .answer) ≡ 0
-      go (goes-on e a b x k) = k .code
-      go (closes e a b k) = k .code
+      go (goes-on e a k) = k .code
+      go (closes e a k) = k .code
       go (edits e q k) = absurd (true≢false (sym h ∙ q))
 
   answers : (c : Step) → Mild (codeOf (step c s .answer))
   answers c = go (stepped c s g)
     where
       go : Stepped E c s → Mild (codeOf (step c s .answer))
-      go (goes-on e a b x k) = rw (k .code) (mild refl)
-      go (closes e a b k) = rw (k .code) (mild refl)
+      go (goes-on e a k) = rw (k .code) (mild refl)
+      go (closes e a k) = rw (k .code) (mild refl)
       go (edits e q k) = k .code
 
   leaves : (c : Step) → collector c ≡ true → (side x : ℕ) → SlotReaches s x → edge (after c s) side x ≡ edge s side x
@@ -71,8 +71,8 @@ module _ {E : ℕ} {s : State} (g : Sound E s) where
       by k = untouched (sizes (g .fits)) (k .made) (g .inv) x side (slot-there s (g .rows) a)
 
       go : Stepped E c s → edge (after c s) side x ≡ edge s side x
-      go (goes-on e y z w k) = by k
-      go (closes e y z k) = by k
+      go (goes-on e y k) = by k
+      go (closes e y k) = by k
       go (edits e q k) = absurd (true≢false (sym h ∙ q))
 
   appends-garbage : (c : Step) (x : ℕ) → step c s .answer ≡ Appended x → ¬ RootReaches s x
@@ -82,8 +82,8 @@ module _ {E : ℕ} {s : State} (g : Sound E s) where
       by k = A.appends-garbage (rw q at (k .made)) (g .inv) (root-there s (g .rows) a)
 
       go : Stepped E c s → ⊥
-      go (goes-on e y z w k) = by k
-      go (closes e y z k) = by k
+      go (goes-on e y k) = by k
+      go (closes e y k) = by k
       go (edits e h k) =
           let w = rw q at (k .appends) in
           absurd (let z : _≡_ {A = ℕ} 0 1 = cc in omega arith)
@@ -118,9 +118,12 @@ demand {E} {m} {r} {n} {s} v = record {
   spares = λ c x q a. appends-garbage (v .sound) c x q (reach-from (λ n h. omega arith) a);
   garbage = appends-garbage (v .sound);
   ends = λ cs l. ends-within v cs (omega (arith, l));
-  within = omega (arith, v .took, v .sound .fits .took, same-bound);
-  steps = v .steps;
-  took = v .took;
+  within = omega (arith, ap (λ (n : Count). n .took) (v .counts), v .sound .fits .took, same-bound);
+  steps = ap (λ (n : Count). n .since) (v .counts);
+  took = ap (λ (n : Count). n .took) (v .counts);
+  cycles = ap (λ (n : Count). n .cycles) (v .counts);
+  blackened = ap (λ (n : Count). n .blackened) (v .counts);
+  inuse = ap (λ (n : Count). n .marked) (v .counts);
   appended = λ x hx a cs l.
       let u = subst (λ r. Garbage E (suc (suc r)) (edge s) x) (v .slots) (garbage-there s (v .sound .rows) a) in
       appended-within v x hx u cs (omega (arith, l));

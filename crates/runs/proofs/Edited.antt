@@ -1,6 +1,7 @@
 -- What is said of an outcome of an editor's step: it is a step of the theory's editor, or changes nothing, and its code is mild.
 -- Codes before the walk, and the walk: from a ready state they refuse mildly, or the place names a node.
 use Prim.Native.Nat.{ℕ, zero, suc, _/_, _%_, _<_}
+use mathlib.Core.Bool.{false}
 use mathlib.Core.Path.{_≡_, refl, sym}
 use mathlib.Core.Option.{none}
 use mathlib.Core.List.{List, [], _∷_, map}
@@ -27,12 +28,12 @@ use Rattle.theory.specs.Reach as R
 use Rattle.theory.proofs.Reaches.{Named}
 use Rattle.theory.proofs.Steps as S
 use S.{other, Deed, nothing, EStep, rest}
-use Rattle.runs.specs.Runs.{kind}
+use Rattle.runs.specs.Runs.{kind, blackens}
 use Rattle.runs.specs.Demand.{Mild}
 use Rattle.runs.proofs.Picks.{if-no}
 use Rattle.runs.proofs.Codes.{mild, Milds, mild-first}
 use Rattle.runs.proofs.Sound.{owes, stateIn, abs, top, Fits, Ready}
-use Rattle.runs.proofs.Made.{act, blackens}
+use Rattle.runs.proofs.Made.{act, counts}
 use Rattle.runs.proofs.WorkStep.{good-edge}
 
 -- an editor's step leaves the collector's part of the record
@@ -40,23 +41,21 @@ pub record Same (x y : Record) : Type 0 where
   pub m : y .m ≡ x .m
   pub r : y .r ≡ x .r
   pub phase : y .phase ≡ x .phase
-  pub steps : y .steps ≡ x .steps
-  pub took : y .took ≡ x .took
-  pub blackened : y .blackened ≡ x .blackened
+  pub counts : counts y ≡ counts x
 
 pub record Edited (E : ℕ) (s : State) (ph : S.Phase) (o : Outcome) : Type 0 where
   pub deed : Deed
   pub made : EStep E (top s) deed (stateIn s ph) (stateIn (o .state) ph)
   pub code : Mild (codeOf (o .answer))
   pub appends : act (o .answer) ≡ other
-  pub blackens : blackens (o .answer) ≡ 0
+  pub blackens : blackens (o .answer) ≡ false
   pub fits : Fits E (o .state)
   pub lengths : map length (o .state .edges) ≡ map length (s .edges)
   pub same : Same (s .rec) (o .state .rec)
 
 -- another node owed, and another last
 pub same : (x : Record) (o : Owed) (n : ℕ) → Same x (withLast (withOwed x o) n)
-same x o n = record { m = refl; r = refl; phase = refl; steps = refl; took = refl; blackened = refl }
+same x o n = record { m = refl; r = refl; phase = refl; counts = refl }
 
 pub refused : {E : ℕ} {s : State} {ph : S.Phase} → Fits E s → (code node : ℕ) → Mild code → Edited E s ph (refuse s code node)
 refused {E} {s} f code node h = record {
