@@ -66,5 +66,6 @@ phaseStep s (Right i) = edgeStep s i (edge s right i) (Black i)
 phaseStep s (Black i) = blackStep s i
 phaseStep s (Append i) = appendStep s i
 
+-- [Order 6] what the step will leave is not judged
 unfoldable pub collect : State → Outcome
 collect s = unless (check s) s (phaseStep s (s .rec .phase))

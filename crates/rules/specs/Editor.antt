@@ -54,6 +54,7 @@ pay s Nothing = refuse s 6 0
 pay s (Node n) =
     pick (badColour s n) (refuse s 7 n) (did (Shaded n) (shade s n) (paid (s .rec)))
 
+-- [Shade 3] a step of its own, after Link's
 unfoldable pub shadeOwed : State → Outcome
 shadeOwed s = unless (check s) s (pay s (s .rec .owed))
 

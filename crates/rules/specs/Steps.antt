@@ -30,7 +30,8 @@ step a s =
     (pick (eqb (a .kind) 4) (look (source a) s)
     (refuse s (first (check s ∷ 10 ∷ [])) 0)))))
 
--- [Runs 1] a run: each step is given what the one before left, refused ones too
+-- [Runs 1] a run: each step, one moment [Calls 2], is given what the one before left, refused ones
+-- too
 unfoldable pub run : List Step → State → State
 run [] s = s
 run (a ∷ rest) s = run rest (step a s .state)

@@ -22,7 +22,7 @@ pub record State : Type 0 where
 abbrev pub sides : State → ℕ
 sides s = length (s .edges)
 
--- what a call answers, and the state that it leaves
+-- [Answers 1] what a call answers, and the state that it leaves
 pub record Outcome : Type 0 where
   pub answer : Answer
   pub state : State
@@ -49,7 +49,7 @@ did a s x = record { answer = a; state = table (s .edges) (s .colour) x }
 abbrev pub refuse : State → ℕ → ℕ → Outcome
 refuse s code node = record { answer = Refused code node; state = s }
 
--- refused with node 0, unless the code is 0
+-- [Order 5] refused with node 0, unless the code is 0
 unfoldable pub unless : ℕ → State → Outcome → Outcome
 unless code s o = pick (eqb code 0) o (refuse s code 0)
 
