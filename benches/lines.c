@@ -1,6 +1,6 @@
-/* The schedule program in plain C, to measure against: document 01's grammar and rules, a line read by fgets and an answer written
-   by printf, both with buffers of 64 KiB. The collector is that of plain.c, its many steps with memchr. Where UNLOCKED is defined, fgets
-   and printf take no locks. */
+/* The schedule program in plain C, to measure against: the same forms and rules, a line read by
+   fgets and an answer written by printf, both with buffers of 64 KiB. The collector is that of
+   plain.c, its many steps with memchr. Where UNLOCKED is defined, fgets and printf take no locks. */
 #include "plain.h"
 #include <stdio.h>
 #include <stdio_ext.h>

@@ -1,4 +1,5 @@
-/* What every call must refuse: null arrays, wrong lengths, words that are no record, records out of range, and jenturik_fresh's sizes.
+/* What every call must refuse: null arrays [C 11], wrong lengths [Codes 1], words that are no
+ * record [C 4], records out of range [Codes 2], and jenturik_fresh's sizes [Fresh 7].
  * The last line is 'N passed, M failed'. */
 #define _DEFAULT_SOURCE
 #include "trial.h"

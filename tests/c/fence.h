@@ -1,5 +1,6 @@
-/* Rooms for arrays lent to the library. A page that may be neither read nor written stands before and behind each room. An array lies against one of
- * the two pages; on its other side stand bytes that must not change. */
+/* Rooms for arrays lent to the library, by which [C 11] is tried. A page that may be neither read
+ * nor written stands before and behind each room. An array lies against one of the two pages; on
+ * its other side stand bytes that must not change. */
 #ifndef FENCE_H
 #define FENCE_H
 

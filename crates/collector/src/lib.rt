@@ -127,7 +127,7 @@ fn append_white(left: &mut [u16], right: &mut [u16], x: Record, i: u16) -> Made
     }
 }
 
-// Append i: a black node becomes white, a white one goes to the free list.
+// [Append 1] Append i: black is made white, white goes to the free list.
 fn append_step(left: &mut [u16], right: &mut [u16], colour: &mut [u8], x: Record, i: u16) -> Made
     requires { ⌜ (i < length (now left)) × ((i < length (now right)) × ((i < length (now colour)) × ((x .last < length (now left)) × ((x .steps < 20000000) × ((i < 4096) × (x .r ≤ 64)))))) ⌝ }
     ensures { λ r. ⌜ outcome r (now (left .exit)) (now (right .exit)) (now (colour .exit)) ≡ appendStep (state (now (left .entry)) (now (right .entry)) (now (colour .entry)) x) i ⌝ }

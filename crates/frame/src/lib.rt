@@ -5,7 +5,7 @@ ghost use mathlib.Core.Path.{_≡_};
 ghost use Rattle.rules.specs.Table.{state, outcome};
 ghost use Rattle.rules.specs.Steps.{step, collecting};
 
-// One step of the collector, as `collector::collect` does it.
+// [Calls 4] One step of the collector, as `collector::collect` does it.
 pub fn collect_in_place(
     left: &mut [u16],
     right: &mut [u16],

@@ -143,7 +143,7 @@ fn serve(
     close(left, right, colour, line, out, run);
 }
 
-// The program's own tables are lent in part, as many entries as there are nodes.
+// [Program 15] The program's own tables are lent in part, as many entries as there are nodes.
 fn lend(
     left: &mut [u16],
     right: &mut [u16],

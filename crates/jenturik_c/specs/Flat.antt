@@ -1,4 +1,4 @@
--- A schedule as 32-bit words, eight to a step.
+-- [C 7] A schedule as 32-bit words, eight to a step.
 use Rattle.base.specs.Choice.{pick, first}
 use Prim.Native.Nat.{ℕ, zero, suc, _+_, _*_, _/_, _%_}
 use mathlib.Core.List.{List, [], _∷_}
@@ -24,6 +24,6 @@ stepsFrom w i (suc n) = stepAt w i ∷ stepsFrom w (suc i) n
 unfoldable pub stepsOf : List ℕ → List Step
 stepsOf w = stepsFrom w 0 (length w / 8)
 
--- where words of the last step are missing, nothing is done: 1, 2, else 10
+-- [C 8] where words of the last step are missing, nothing is done: 1, 2, else 10
 unfoldable pub scheduleOf : List ℕ → State → Followed
 scheduleOf w s = pick (eqb (length w % 8) 0) (schedule (stepsOf w) s) (followed 0 (first (check s ∷ 10 ∷ [])) s)

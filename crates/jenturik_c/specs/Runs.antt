@@ -1,4 +1,4 @@
--- What a schedule, and many collector steps, do for a caller that keeps the record as words.
+-- What a schedule, and many collector steps, do for a caller that keeps the record as words [C 10].
 use Rattle.base.specs.Choice.{pick}
 use Prim.Native.Nat.{ℕ}
 use mathlib.Core.List.{List, [], _∷_}

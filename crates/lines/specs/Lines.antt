@@ -1,4 +1,4 @@
--- What a line prints, and what it leaves. Document 01, "The schedule program".
+-- What a line prints, and what it leaves: the section Program of docs/RULES.md.
 use Rattle.base.specs.Choice.{pick}
 use Prim.Native.Nat.{ℕ, _-_}
 use mathlib.Core.List.{List, [], _∷_}
@@ -24,22 +24,23 @@ pub record Line : Type 0 where
 abbrev pub prints : ℕ → ℕ → State → Line
 prints code node s = record { code = code; node = node; state = s }
 
--- "`node` is: for the first line, last; take, the node taken; link, the target; shade, the node shaded; look, the node named"
+-- [Program 13] a line prints the answer's code and node
 abbrev pub answered : Outcome → Line
 answered o = prints (codeOf (o .answer)) (nodeOf (o .answer)) (o .state)
 
--- "0 if none was made"
+-- [Program 14] 0 where no step was done
 unfoldable pub startOf : ℕ → ℕ → ℕ
 startOf done i = pick (eqb done 0) 0 i
 
--- "`collect` makes that many collector steps (0 to 1,000,000), stopping at a refusal": node is "the position's i before its last step"; where a step is refused it is the last
+-- [Program 7] n collector steps, or until one is refused; [Program 14] the node is the i at which
+-- the last of them stood, a refused one too
 unfoldable pub collected : ℕ → State → Line
 collected n s =
     let f = schedule (collects n) s in
     let before = schedule (collects (n - 1)) s .state in
     prints (f .code) (startOf (f .done) (position (before .rec .phase))) (f .state)
 
--- a line after the first; one that is "not of this form [..] prints code 10 and is skipped"
+-- a line after the first; [Program 9] one that is of no form of theirs
 unfoldable pub later : Said → State → Line
 later (Do a) s = answered (step a s)
 later (Collect n) s = collected n s
@@ -49,7 +50,7 @@ later Unreadable s = prints 10 0 s
 abbrev pub noTable : State
 noTable = state [] [] [] (freshRecord 0 0 0)
 
--- the first line: a fresh table
+-- [Program 2] the first line: a fresh table; [Program 10] or its code and node 0
 unfoldable pub first : Said → Line
 first (First m r) = answered (fresh m r (replicate m 0 ∷ replicate m 0 ∷ []) (replicate m 0))
 first (Do a) = prints 10 0 noTable
@@ -60,7 +61,9 @@ first Unreadable = prints 10 0 noTable
 abbrev pub Rest : ℕ → List ℕ → List ℕ → List ℕ → List ℕ → List ℕ → List ℕ → Type 0
 Rest m l r c l₀ r₀ c₀ = (drop m l ≡ drop m l₀) × (drop m r ≡ drop m r₀) × (drop m c ≡ drop m c₀)
 
--- a first line's answer, and the table in the first entries of the program's own, which held l₀, r₀ and c₀; where the line is refused the record's M is 0, so that all are as they were
+-- a first line's answer, and the table in the first entries of the program's own [Program 15],
+-- which held l₀, r₀ and c₀; where the line is refused the record's M is 0, so that all are as they
+-- were
 pub record Begun (t : Told) (l r c l₀ r₀ c₀ : List ℕ) (line : Line) : Type 0 where
   pub code : t .code ≡ line .code
   pub node : t .node ≡ line .node

@@ -1,5 +1,7 @@
--- A public call's promise determines its answer, the record and the three slices: any two outcomes that its contract admits are equal.
--- `Learnt κs a r s` is what a caller learns of a call: κs the lifetimes, a the arguments, r what it hands back, s the lent slices as it leaves them.
+-- [Calls 3] What a public call does is determined: any two outcomes that its contract admits are
+-- equal in the answer, the record and the slices. `Learnt κs a r s` is what a caller learns of a
+-- call: κs the lifetimes, a the arguments, r what it hands back, s the lent slices as it leaves
+-- them.
 use mathlib.Core.Path.{_≡_, sym, _∙_}
 use denote.Ref.{now}
 use Rattle.rules.specs.Table.{outcome}

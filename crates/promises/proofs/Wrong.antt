@@ -32,38 +32,38 @@ use Rattle.promises.proofs.Figures.{at, three, five}
 abbrev kind : ℕ → (Step → State → Outcome) → Step → State → Outcome
 kind k f a s = pick (eqb (a .kind) k) (f a s) (step a s)
 
--- "a collector that refuses every call"
+-- [Mistakes 6]
 abbrev refusesAll : Step → State → Outcome
 refusesAll a s = refuse s 2 0
 
--- "one that answers "looked" every time"
+-- [Mistakes 7]
 abbrev looksOnly : Step → State → Outcome
 looksOnly = kind 3 (λ a s. record { answer = Looked (nodeOf (step a s .answer)); state = step a s .state })
 
--- "one that writes nothing": the record moves, the table stays
+-- [Mistakes 8] the record moves, the table stays
 abbrev writesNothing : Step → State → Outcome
 writesNothing = kind 3 (λ a s. did (step a s .answer) s (step a s .state .rec))
 
--- "one that collects honestly for its first cycle and then only moves its position"
+-- [Mistakes 9]
 abbrev honestOnce : Step → State → Outcome
 honestOnce = kind 3 (λ a s. pick (eqb (s .rec .cycles) 0) (step a s) (writesNothing a s))
 
 abbrev inRecord : (Record → Record) → Outcome → Outcome
 inRecord f o = did (o .answer) (o .state) (f (o .state .rec))
 
--- "one with invented step counts or nodes in use"
+-- [Mistakes 10] invented steps, and invented in use
 abbrev inventsSteps : Step → State → Outcome
 inventsSteps = kind 3 (λ a s. inRecord (λ x. withSteps x (x .steps + 1)) (step a s))
 
 abbrev inventsInUse : Step → State → Outcome
 inventsInUse = kind 3 (λ a s. inRecord (λ x. withInuse x (x .m)) (step a s))
 
--- "Shading before the edge moves": Link shades, and leaves the edge for later
+-- [Mistakes 1] Link shades, and leaves the edge for later
 abbrev shadesFirst : Step → State → Outcome
 shadesFirst =
     kind 1 (λ a s. depart s (source a) (λ n. arrive s (walk s (target a)) (λ t. did (Linked t) (shade s t) (owing (s .rec) t))))
 
--- "Ending the marking after one pass without gray that began before the last blackening": Black does not begin the pass again
+-- [Mistakes 2] Black does not begin the pass again
 abbrev onePass : Phase → State → Outcome
 onePass (Roots i) s = collect s
 onePass (Scan i k) s = collect s
@@ -76,15 +76,15 @@ onePass (Append i) s = collect s
 abbrev passesOnce : Step → State → Outcome
 passesOnce = kind 3 (λ a s. onePass (s .rec .phase) s)
 
--- "Making the target of Link black."
+-- [Mistakes 3]
 abbrev blackensTarget : Step → State → Outcome
 blackensTarget = kind 1 (λ a s. did (step a s .answer) (withColour (step a s .state) (nodeOf (step a s .answer)) black) (step a s .state .rec))
 
--- "Leaving an appended node's right edge."
+-- [Mistakes 4]
 abbrev keepsRight : Step → State → Outcome
 keepsRight = kind 3 (λ a s. record { answer = step a s .answer; state = withEdge (step a s .state) right (nodeOf (step a s .answer)) (edge s right (nodeOf (step a s .answer))) })
 
--- "Leaving last at the node taken when the list runs out."
+-- [Mistakes 5]
 abbrev keepsLast : Step → State → Outcome
 keepsLast = kind 0 (λ a s. inRecord (λ x. withLast x (s .rec .last)) (step a s))
 
@@ -98,16 +98,16 @@ leavesFirst = kind 0 (λ a s. unshaded s (step a s) (nodeOf (step a s .answer)))
 abbrev leavesNext : Step → State → Outcome
 leavesNext = kind 0 (λ a s. unshaded s (step a s) (edge s left (nodeOf (step a s .answer))))
 
--- 5 judged before the second place's 3
+-- [Order 1] 5 judged before the second place's 3
 abbrev owedEarly : Step → State → Outcome
 owedEarly =
     kind 1 (λ a s. unless (first (check s ∷ sideCode (sides s) (a .side) ∷ placeCode (sides s) (s .rec .r) (source a) ∷ owedCode (s .rec .owed) ∷ placeCode (sides s) (s .rec .r) (target a) ∷ [])) s (step a s))
 
--- 8 judged after the second walk
+-- [Order 2] 8 judged after the second walk
 abbrev absentLate : Step → State → Outcome
 absentLate = kind 1 (λ a s. arrive s (walk s (target a)) (λ t. step a s))
 
--- Append without "a white node that is last"
+-- Append that passes last if it is white [Damage 4]
 abbrev appendsLast : Phase → State → Outcome
 appendsLast (Roots i) s = collect s
 appendsLast (Scan i k) s = collect s

@@ -1,4 +1,4 @@
--- A refused step leaves the state as it was: by the cases of the definitions.
+-- [Answers 4] A refused step leaves the state as it was: by the cases of the definitions.
 use Prim.Native.Nat.{ℕ}
 use mathlib.Core.Bool.{Bool, true, false}
 use mathlib.Core.Path.{_≡_, refl}

@@ -1,4 +1,4 @@
--- Codes 1 and 2: the sizes and the record's test. Document 01, "The node table", "The record" and "Codes".
+-- [Codes 1] and [Codes 2]: the sizes and the record's test. [Order 5] Nothing else is judged.
 use Rattle.base.specs.Choice.{pick, every}
 use Prim.Native.Nat.{ℕ, _+_, _*_}
 use mathlib.Core.Bool.{Bool, true, _||_, not}
@@ -12,13 +12,13 @@ use Rattle.rules.specs.declared.Phase.the-variants.{Roots, Scan, Left, R
 use Rattle.rules.specs.declared.Owed.{Owed}
 use Rattle.rules.specs.declared.Owed.the-variants.{Nothing, Node}
 
--- "M is 3 to 4,096. R slots: 1 to 64, and R + 2 is at most M." 1: "M or R out of range, or the three lengths and the record's M differ"
--- The lengths of the slices: those of the edges, and the colours'
+-- [Table 1] the ranges of M and R; [Codes 1] and each array has M entries. The lengths are those of
+-- the edges, and the colours'.
 unfoldable pub sizeOk : ℕ → ℕ → List ℕ → ℕ → Bool
 sizeOk m r edges colours =
     every (leb 3 m ∷ leb m 4096 ∷ leb 1 r ∷ leb r 64 ∷ leb (r + 2) m ∷ (map (λ n. eqb n m) edges ++ (eqb colours m ∷ [])))
 
--- 2: "a position outside its phase". "Roots i (i up to R + 1), Scan i with k (i below M, k from 1 to M), Left i, Right i, Black i, Append i (i below M)"
+-- [Record 3] the position of the phase
 unfoldable pub phaseOk : ℕ → ℕ → Phase → Bool
 phaseOk m r (Roots i) = leb i (r + 1)
 phaseOk m r (Scan i k) = every (ltb i m ∷ leb 1 k ∷ leb k m ∷ [])
@@ -27,20 +27,20 @@ phaseOk m r (Right i) = ltb i m
 phaseOk m r (Black i) = ltb i m
 phaseOk m r (Append i) = ltb i m
 
--- 2: "owed node 1 or at least M"
+-- [Codes 2] the node owed: any but FREE
 unfoldable pub owedOk : ℕ → Owed → Bool
 owedOk m Nothing = true
 owedOk m (Node n) = every (not (eqb n FREE) ∷ ltb n m ∷ [])
 
--- 2: "last not 1 and not in R + 2..M − 1"
+-- [Codes 2] last: a node that can be free, or FREE for none [Record 5]
 unfoldable pub lastOk : ℕ → ℕ → ℕ → Bool
 lastOk m r n = eqb n FREE || every (leb (r + 2) n ∷ ltb n m ∷ [])
 
--- "B = M×M + 5×M + R + 2", for two edges; E is the number of edges
+-- [Record 11] B, where a node has E edges; the rule is for two
 unfoldable pub bound : ℕ → ℕ → ℕ → ℕ
 bound E m r = m * m + (3 + E) * m + r + 2
 
--- 2: "blackened or nodes in use above M; steps at least B; last cycle's steps above B"
+-- [Codes 2] the counts, b being B
 unfoldable pub countsOk : Record → ℕ → Bool
 countsOk x b = every (leb (x .blackened) (x .m) ∷ leb (x .inuse) (x .m) ∷ ltb (x .steps) b ∷ leb (x .took) b ∷ [])
 

@@ -1,4 +1,5 @@
--- The record's steps. Document 01, "The record", "Editor steps" and "Collector steps".
+-- How a step moves the record. [Record 12] Each definition names every field: what is not told to
+-- change is as it was.
 use Rattle.base.specs.Choice.{pick}
 use Prim.Native.Nat.{ℕ, _+_, _%_}
 use lib.Dec.{ltb, eqb}
@@ -8,7 +9,7 @@ use Rattle.rules.specs.declared.Phase.the-variants.{Roots, Scan, Left, R
 use Rattle.rules.specs.declared.Owed.{Owed}
 use Rattle.rules.specs.declared.Owed.the-variants.{Nothing, Node}
 
--- "The phase is one of six cases carrying its own position": its i
+-- [Record 2] the position of a phase: its i
 abbrev pub position : Phase → ℕ
 position (Roots i) = i
 position (Scan i k) = i
@@ -68,40 +69,40 @@ withBlackened x n = counted x (x .steps) (x .cycles) (x .took) n (x .inuse)
 abbrev pub withInuse : Record → ℕ → Record
 withInuse x n = counted x (x .steps) (x .cycles) (x .took) (x .blackened) n
 
--- "the target's shade is owed"
+-- [Link 2] node n's shade is owed [Record 4]
 abbrev pub owing : Record → ℕ → Record
 owing x n = withOwed x (Node n)
 
--- "nothing is owed afterwards"
+-- [Shade 2] nothing is owed
 abbrev pub paid : Record → Record
 paid x = withOwed x Nothing
 
--- "Every collector step that is done counts one." The phase is p now.
+-- [Collector 2] one more step is done [Record 6], and the phase is p now
 abbrev pub moved : Record → Phase → Record
 moved x p = withSteps (withPhase x p) (x .steps + 1)
 
--- "Append 0, and nodes in use is set": it "is the number of nodes blackened in the last completed marking"
+-- [Scan 4] the marking is complete, and in use is what blackened is [Record 10]
 abbrev pub marked : Record → Record
 marked x = withInuse (moved x (Append 0)) (x .blackened)
 
--- "the next i (modulo M)"
+-- [Collector 3] the node after i
 abbrev pub next : Record → ℕ → ℕ
 next x i = (i + 1) % x .m
 
--- "add one to nodes blackened, then Scan at the next i (modulo M) with k = M"
+-- [Black 2] one more node is black [Record 9], and the scan begins anew
 abbrev pub rescan : Record → ℕ → Record
 rescan x i = withBlackened (moved x (Scan (next x i) (x .m))) (x .blackened + 1)
 
--- "cycles completed (32 bits, stays at its largest value)"
+-- [Record 7] one more cycle, where 32 bits hold it
 unfoldable pub oneMore : ℕ → ℕ
 oneMore n = pick (ltb n 4294967295) (n + 1) n
 
--- "the cycle is complete: the steps become the last cycle's count, steps and blackened become 0, Roots 0"; this step is counted
+-- [Append 5] the cycle is complete; this step is among those that it took [Record 8]
 abbrev pub closed : Record → Record
 closed x =
     let told = withCycles (withTook x (x .steps + 1)) (oneMore (x .cycles)) in
     withPhase (withBlackened (withSteps told 0) 0) (Roots 0)
 
--- "After i = M − 1 the cycle is complete", before it Append at the next i
+-- [Append 4] on to the next node; [Append 5] there is none after M − 1
 unfoldable pub afterAppend : Record → ℕ → Record
 afterAppend x i = pick (eqb (i + 1) (x .m)) (closed x) (moved x (Append (i + 1)))

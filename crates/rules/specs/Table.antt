@@ -1,4 +1,5 @@
--- The node table, and what a call makes of it. Document 01, "The node table" and "Codes".
+-- The node table, and what a call makes of it: the sections Table, Damage and Answers of
+-- docs/RULES.md.
 use Rattle.base.specs.Choice.{pick}
 use Prim.Native.Nat.{ℕ, _+_}
 use mathlib.Core.Bool.{Bool, _||_}
@@ -10,8 +11,8 @@ use Rattle.rules.specs.declared.Answer.{Answer}
 use Rattle.rules.specs.declared.Answer.the-variants.{Refused}
 use Rattle.rules.specs.declared.Made.{Made}
 
--- "M nodes, numbered from 0, in three lent slices of length M: left edges and right edges, as 16-bit numbers, and colours, as bytes"; the record beside them.
--- A list of edges for each side, in the order of the sides.
+-- [Table 2] [Record 1] the table as lists, and the record beside them. A list of edges for each
+-- side, in the order of the sides.
 pub record State : Type 0 where
   pub edges : List (List ℕ)
   pub colour : List ℕ
@@ -21,7 +22,7 @@ pub record State : Type 0 where
 abbrev pub sides : State → ℕ
 sides s = length (s .edges)
 
--- what a call answers, and the state that it leaves
+-- [Answers 1] what a call answers, and the state that it leaves
 pub record Outcome : Type 0 where
   pub answer : Answer
   pub state : State
@@ -44,15 +45,15 @@ outcome d l r c = handed d (l ∷ r ∷ []) c
 abbrev pub did : Answer → State → Record → Outcome
 did a s x = record { answer = a; state = table (s .edges) (s .colour) x }
 
--- "A refused step answers node 0 (7 answers the node) and changes nothing."
+-- [Answers 3] [Answers 4] a refusal answers a code and a node, and the state stays
 abbrev pub refuse : State → ℕ → ℕ → Outcome
 refuse s code node = record { answer = Refused code node; state = s }
 
--- refused with node 0, unless the code is 0
+-- [Order 5] refused with node 0, unless the code is 0
 unfoldable pub unless : ℕ → State → Outcome → Outcome
 unless code s o = pick (eqb code 0) o (refuse s code 0)
 
--- "0 white, 1 gray, 2 black"
+-- [Table 4] the colours
 abbrev pub white : ℕ
 white = 0
 
@@ -62,26 +63,26 @@ gray = 1
 abbrev pub black : ℕ
 black = 2
 
--- "Node 0 is NIL."
+-- [Table 5]
 abbrev pub NIL : ℕ
 NIL = 0
 
--- "Node 1 is FREE."
+-- [Table 6]
 abbrev pub FREE : ℕ
 FREE = 1
 
--- "Nodes 0 to R + 1 are the roots."
+-- [Table 9] whether node n is a root
 abbrev pub isRoot : ℕ → ℕ → Bool
 isRoot r n = leb n (r + 1)
 
--- "A side is 0 left or 1 right."
+-- [Table 12] the sides
 abbrev pub left : ℕ
 left = 0
 
 abbrev pub right : ℕ
 right = 1
 
--- the edge of node n on a side; 0 on a side that the table has not
+-- [Table 3] the edge of node n on a side; 0 on a side that the table has not
 unfoldable pub edgeOf : List (List ℕ) → ℕ → ℕ → ℕ
 edgeOf es side n = getD (getD es side []) n 0
 
@@ -102,17 +103,17 @@ colourOf s n = getD (s .colour) n 0
 abbrev pub withColour : State → ℕ → ℕ → State
 withColour s n c = table (s .edges) (set (s .colour) n c) (s .rec)
 
--- "To shade a node: white becomes gray, gray and black stay."
+-- [Table 11] node n shaded
 unfoldable pub shadeIn : List ℕ → ℕ → List ℕ
 shadeIn colours n = pick (eqb (getD colours n 0) white) (set colours n gray) colours
 
 abbrev pub shade : State → ℕ → State
 shade s n = table (s .edges) (shadeIn (s .colour) n) (s .rec)
 
--- "Bad: an edge at least M or equal to 1"
+-- [Damage 1] an edge that leads to FREE or out of the table
 unfoldable pub badEdge : ℕ → ℕ → Bool
 badEdge m e = leb m e || eqb e FREE
 
--- "a colour above 2"
+-- [Damage 3] a colour that is none
 abbrev pub badColour : State → ℕ → Bool
 badColour s n = ltb black (colourOf s n)

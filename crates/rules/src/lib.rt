@@ -1,4 +1,5 @@
-// The types. Document 01 as definitions is in specs/; what is here is the record's test and its steps, and an answer's numbers.
+// The types. The rules as definitions are in specs/; what is here is the record's test and its
+// steps, and an answer's numbers.
 
 ghost use mathlib.Core.Path.{_≡_};
 ghost use mathlib.Core.List.{[], _∷_};
@@ -354,7 +355,7 @@ impl Record {
 }
 
 impl Answer {
-    // Document 01's code: 0 where done.
+    // [Answers 2] The code: 0 where done.
     pub fn code(self) -> u8
         ensures { λ c. ⌜ c ≡ codeOf self ⌝ }
     {

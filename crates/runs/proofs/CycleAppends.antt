@@ -1,5 +1,5 @@
--- What a cycle appends: exactly the nodes that were white when its appending began, each once.
--- And what was garbage when one cycle's appending began has been appended by the end of the next.
+-- What a cycle appends: each node once that is white at Append 0, and no other. And a node that is
+-- garbage at Append 0 is appended in this cycle or in the next one.
 use Prim.Native.Nat.{ℕ, suc, _<_}
 use mathlib.Core.Bool.{true≢false}
 use mathlib.Core.Path.{_≡_, refl, sym, ap, subst₂, _∙_}

@@ -49,6 +49,6 @@ pub record Fit (m : ℕ) (c : List ℕ) (e : ℕ) : Type 0 where
   pub not-free : e ≡ 1 → ⊥
   pub known : getD c e 0 ≤ 2
 
--- what a step can spoil, b being B
+-- [Order 6] what a step can spoil, b being B
 unfoldable pub fineOk : ℕ → Record → Bool
 fineOk b x = every (leb (x .blackened) (x .m) ∷ ltb (x .steps) b ∷ [])

@@ -41,7 +41,7 @@ pub fn set_edge(left: &mut [u16], right: &mut [u16], side: u32, n: u16, t: u16)
     right[at] = t;
 }
 
-// To shade a node: white becomes gray, gray and black stay.
+// [Table 11] Makes a white node gray.
 pub fn shade_node(colour: &mut [u8], n: u16)
     requires { ⌜ n < length (now colour) ⌝ }
     ensures { λ _. ⌜ now (colour .exit) ≡ shadeIn (now (colour .entry)) n ⌝ }

@@ -1,4 +1,4 @@
--- An answer's line of bytes. Document 01, "The schedule program".
+-- An answer's line of bytes [Program 1].
 use Rattle.base.specs.Choice.{pick}
 use Prim.Native.Nat.{ℕ, _+_, _/_, _%_}
 use mathlib.Core.List.{List, [], _∷_, _++_}

@@ -1,4 +1,5 @@
-// A schedule's text: a line's bytes to what it says, and an answer to its line of bytes. Document 01's grammar as definitions is in specs/.
+// A schedule's text: a line's bytes to what it says, and an answer to its line of bytes. The forms
+// of the lines are definitions in specs/.
 use rules::Step;
 ghost use mathlib.Core.Path.{_≡_};
 ghost use Prim.Native.Nat.{_<_};

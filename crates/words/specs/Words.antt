@@ -1,4 +1,4 @@
--- The record as sixteen 32-bit words, for callers that have no enums.
+-- [C 2] The record as sixteen 32-bit words, for callers that have no enums.
 use Rattle.base.specs.Choice.{pick, every}
 use Prim.Native.Nat.{ℕ}
 use mathlib.Core.Bool.{Bool}
@@ -80,7 +80,8 @@ unusedWords a b c = every (eqb a 0 ∷ eqb b 0 ∷ eqb c 0 ∷ [])
 unfoldable pub nodeWords : ℕ → ℕ → ℕ → ℕ → ℕ → Bool
 nodeWords m r last blackened inuse = every (small m ∷ small r ∷ small last ∷ small blackened ∷ small inuse ∷ [])
 
--- whether words are a record's: sixteen, each number in its width, phase, shade and unused words as above
+-- [C 3] whether words are a record's: sixteen, each number in its width, phase, shade and unused
+-- words as above
 unfoldable pub isRecord : List ℕ → Bool
 isRecord w =
     every (eqb (length w) 16 ∷ phaseWords (word w 2) (word w 3) (word w 4) ∷ owedWords (word w 5) (word w 6) ∷ unusedWords (word w 13) (word w 14) (word w 15) ∷ nodeWords (word w 0) (word w 1) (word w 7) (word w 11) (word w 12) ∷ [])
