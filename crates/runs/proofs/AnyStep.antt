@@ -3,6 +3,7 @@
 use Prim.Native.Nat.{ℕ}
 use mathlib.Core.Bool.{Bool, true, false}
 use mathlib.Core.Path.{_≡_, refl, sym, ap}
+use mathlib.Core.Option.{none}
 use mathlib.Core.List.{[], _∷_}
 use borrow.Author.Tests.{eqb-true}
 use Rattle.base.specs.Choice.{pick, first}
@@ -22,7 +23,7 @@ use Rattle.runs.proofs.Codes.{mild, mild-first}
 use Rattle.runs.proofs.Tables.{rows-kept}
 use Rattle.runs.proofs.Bill.{bill-edit}
 use Rattle.runs.proofs.Sound.{abs, top, Sound, sizes, Ready, ready}
-use Rattle.runs.proofs.Made.{act, counts, Ticked, on, over, Made}
+use Rattle.runs.proofs.Made.{act, named, counts, Ticked, on, over, Made}
 use Rattle.runs.proofs.AppendStep.{collect-made, sound-made}
 use Rattle.runs.proofs.Edited.{Edited, refused, made-there}
 use Rattle.runs.proofs.LinkStep.{look-edited, link-edited}
@@ -32,6 +33,7 @@ pub record Collected (E : ℕ) (c : Step) (s : State) (tk : Tick) : Type 0 where
   pub kind : collector c ≡ true
   pub made : CStep E (s .rec .m) (top s) (abs E s) (abs E (after c s)) (act (step c s .answer)) tk
   pub code : codeOf (step c s .answer) ≡ 0
+  pub named : named (step c s .answer) ≡ none
   pub nodes : after c s .rec .m ≡ s .rec .m
   pub slots : after c s .rec .r ≡ s .rec .r
   pub sound : Sound E (after c s)
@@ -65,7 +67,7 @@ stepped {E} c s g = go (collector c) refl
         k = rw (collects-is c s h) (collect-made g)
 
         done : {t : Tick} → CStep E (s .rec .m) (top s) (abs E s) (abs E (after c s)) (act (step c s .answer)) t → Collected E c s t
-        done d = record { kind = h; made = d; code = k .code; nodes = k .nodes; slots = k .slots; sound = sound-made g k }
+        done d = record { kind = h; made = d; code = k .code; named = k .named; nodes = k .nodes; slots = k .slots; sound = sound-made g k }
 
         test : (b : Bool) → lastAppend (s .rec .m) (kind E (s .rec .phase)) ≡ b → completes c s ≡ b
         test b e = rw (g .rows .count) (sym (every-skip _ _ _ (sym h) (every-last _ _ (sym e))))

@@ -1,11 +1,11 @@
 -- Demand 3: each of its claims, of a sound state, and all of them of every run from a start.
 use Prim.Native.Nat.{ℕ, suc, _<_}
-use mathlib.Core.Bool.{true, true≢false}
+use mathlib.Core.Bool.{true, false, true≢false}
 use mathlib.Core.Path.{_≡_, refl, sym, ap, _∙_, subst}
-use mathlib.Core.Logic.{_≢_}
-use mathlib.Core.Option.{none}
+use mathlib.Core.Logic.{_≢_, _⊎_, inl, inr}
+use mathlib.Core.Option.{none, some}
 use native.Mathlib.Omega.{arith}
-use Rattle.rules.specs.Table.{State, edge, colourOf}
+use Rattle.rules.specs.Table.{State, FREE, left, edge, colourOf}
 use Rattle.rules.specs.Check.{bound}
 use Rattle.rules.specs.Steps.{step, codeOf}
 use Rattle.rules.specs.declared.Step.{Step}
@@ -14,8 +14,9 @@ use Rattle.theory.specs.Reach.{Reach, Root, Slot, Garbage}
 use Rattle.theory.proofs.Steps as S
 use S.{Tick}
 use Rattle.theory.proofs.Safe as A
-use A.{untouched}
+use A.{untouched, Edits, of-slot, of-free, of-first, edit-where}
 use Rattle.theory.proofs.Facts as F
+use Rattle.theory.proofs.Marking.{none≢some}
 use Rattle.theory.proofs.Invariant.{Inv, Free, at-roots}
 use Rattle.runs.specs.Runs.{after, collector, Count, begun}
 use Rattle.runs.specs.Demand.{RootReaches, SlotReaches, Mild, FreeNodes, Demand, Demand-3}
@@ -23,6 +24,8 @@ use Rattle.runs.proofs.Codes.{mild}
 use Rattle.runs.proofs.Tables.{Rows, reach-from}
 use Rattle.runs.proofs.Phases.{view, is-append}
 use Rattle.runs.proofs.Sound.{owes, stateIn, top, Sound, sizes, Ready, ready}
+use Rattle.runs.proofs.Made.{named}
+use Rattle.runs.proofs.Edited.{made-there, walked, walked-at}
 use Rattle.runs.proofs.AnyStep.{Collected, Stepped, goes-on, closes, edits, stepped}
 use Rattle.runs.proofs.Counting.{Carried, carried-run, ends-within, appended-within}
 use Rattle.runs.proofs.Starts.{starts}
@@ -31,6 +34,9 @@ use Rattle.runs.proofs.Starts.{starts}
 module _ {E m : ℕ} (s : State) (w : Rows E m (s .edges)) {x : ℕ} where
   pub slot-there : SlotReaches s x → Reach E (Slot (top s)) (edge s) x
   slot-there a = reach-from (λ n h. omega arith) (rw (w .count) at a)
+
+  pub slot-here : Reach E (Slot (top s)) (edge s) x → SlotReaches s x
+  slot-here a = rw (w .count) (reach-from (λ n h. omega arith) a)
 
   pub root-there : RootReaches s x → Reach E (Root (top s)) (edge s) x
   root-there a = reach-from (λ n h. omega arith) (rw (w .count) at a)
@@ -88,6 +94,33 @@ module _ {E : ℕ} {s : State} (g : Sound E s) where
           let w = rw q at (k .appends) in
           absurd (let z : _≡_ {A = ℕ} 0 1 = cc in omega arith)
 
+  names : (c : Step) (x : ℕ) → named (step c s .answer) ≡ some x → SlotReaches s x
+  names c x q = go (stepped c s g)
+    where
+      by : {tk : Tick} → Collected E c s tk → SlotReaches s x
+      by k = absurd (none≢some (sym (k .named) ∙ q))
+
+      go : Stepped E c s → SlotReaches s x
+      go (goes-on e y k) = by k
+      go (closes e y k) = by k
+      go (edits e h k) = slot-here s (g .rows) (k .named x q)
+
+  changes : (c : Step) → collector c ≡ false → (side x : ℕ) → edge (after c s) side x ≢ edge s side x
+      → SlotReaches s x ⊎ ((side ≡ left) × ((x ≡ FREE) ⊎ (x ≡ edge s left FREE)))
+  changes c h side x ne = go (stepped c s g)
+    where
+      at : (edge (after c s) side x ≡ edge s side x) ⊎ Edits E (top s) (edge s) side x
+          → SlotReaches s x ⊎ ((side ≡ left) × ((x ≡ FREE) ⊎ (x ≡ edge s left FREE)))
+      at (inl q) = absurd (ne q)
+      at (inr (of-slot a)) = inl (slot-here s (g .rows) a)
+      at (inr (of-free a b)) = inr (a, inl b)
+      at (inr (of-first a b)) = inr (a, inr b)
+
+      go : Stepped E c s → SlotReaches s x ⊎ ((side ≡ left) × ((x ≡ FREE) ⊎ (x ≡ edge s left FREE)))
+      go (goes-on e y k) = absurd (true≢false (sym (k .kind) ∙ h))
+      go (closes e y k) = absurd (true≢false (sym (k .kind) ∙ h))
+      go (edits e q k) = at (edit-where (made-there k) (g .inv) side x)
+
 -- the free list, whatever the collector
 module _ {E : ℕ} {s : State} {ph : S.Phase} (g : Ready E s ph) where
   pub free-nodes : FreeNodes s
@@ -128,6 +161,12 @@ demand {E} {m} {r} {n} {s} v = record {
       let u = subst (λ r. Garbage E (suc (suc r)) (edge s) x) (v .slots) (garbage-there s (v .sound .rows) a) in
       appended-within v x hx u cs (omega (arith, l));
   free = free-nodes (ready (v .sound));
+  nil = v .sound .inv .shape .nil;
+  head = v .sound .inv .shape .bare;
+  named = λ p x e q. slot-here s (v .sound .rows) (walked-at (rw q at (walked (ready (v .sound)) p (sym e))));
+  looks = λ c x q. names (v .sound) c x (ap named q);
+  links = λ c x q. names (v .sound) c x (ap named q);
+  edits = changes (v .sound);
   no-black-to-white = λ h o side x l b.
       no-black-to-white s _ (v .sound .inv) (λ i q. h i (is-append (view (v .sound .fits .few) (s .rec .phase)) q)) (ap owes o) side x
       (omega (arith, l, v .sound .rows .count)) b;
