@@ -4,14 +4,13 @@ use Prim.Native.Nat.{ℕ}
 use mathlib.Core.List.{List, [], _∷_}
 use mathlib.Core.Path.{_≡_, refl, sym, ap, subst}
 use native.Mathlib.Omega.{arith}
-use lib.Dec.{eqb}
 use lib.ListN.{length, getD}
 use borrow.Author.Tests.{eqb-true}
 use Rattle.base.proofs.Tests.{split}
 use Rattle.rules.specs.Table.{State, state, table}
 use Rattle.rules.specs.Steps.{run}
 use Rattle.rules.specs.declared.Record.{Record}
-use Rattle.runs.specs.Runs.{Count, begun}
+use Rattle.runs.specs.Runs.{Count}
 use Rattle.runs.specs.Start.{Start}
 use Rattle.runs.proofs.Counting.{Carried, carried-run}
 use Rattle.runs.proofs.Starts as S
@@ -64,7 +63,7 @@ module _ {C X : Type 0} (f : Face C X) (Fit : X → Type 0) (keep : Record → X
         → Held (track d (stateOf f h) k) (f .leaves c h)
     unfolding track
     turn c h (starts m r code) g k v =
-        split (λ (k : Known). Held k (f .leaves c h)) (eqb code 0) (since m r begun) nothing
+        split (λ (k : Known). Held k (f .leaves c h)) _ _ _
         (λ q. let (t, b, e) = g (eqb-true code 0 q) in lent-held (f .leaves c h) e (S.starts b))
         (λ q. tt)
     turn c h (makes cs) g nothing v = tt

@@ -1,19 +1,16 @@
 -- Demand 3 for the calls for C: the words that a start writes are a record's and stay a record's,
 -- so that each call is the run of steps that it is over the record.
-use Prim.Native.Nat.{ℕ, _≤_, _%_}
+use Prim.Native.Nat.{ℕ, _≤_}
 use mathlib.Core.Bool.{true}
 use mathlib.Core.List.{List, [], _∷_}
-use mathlib.Core.Path.{_≡_, refl, sym, ap, _∙_, subst}
+use mathlib.Core.Path.{_≡_, refl, sym, ap, subst}
 use native.Mathlib.Omega.{arith}
-use lib.Dec.{eqb}
-use lib.ListN.{length, take}
-use Rattle.base.specs.Choice.{first}
-use Rattle.base.proofs.Tests.{split, pick-yes}
+use lib.ListN.{take}
+use Rattle.base.proofs.Tests.{pick-yes}
 use Rattle.rules.specs.Table.{State}
-use Rattle.rules.specs.Check.{check}
 use Rattle.rules.specs.Records.{position}
 use Rattle.rules.specs.Steps.{run, taking, linking, shading, collecting, looking}
-use Rattle.rules.specs.Schedules.{Followed, followed, schedule, collects}
+use Rattle.rules.specs.Schedules.{Followed, schedule, collects}
 use Rattle.rules.specs.Facts.{Inside, Owable}
 use Rattle.rules.specs.declared.Step.{Step}
 use Rattle.rules.specs.declared.Phase.{Phase}
@@ -21,13 +18,12 @@ use Rattle.rules.specs.declared.Phase.the-variants.{Roots, Scan, Left, Right, B
 use Rattle.rules.specs.declared.Owed.{Owed}
 use Rattle.rules.specs.declared.Owed.the-variants.{Nothing, Node}
 use Rattle.rules.proofs.Good.{good, inside, owable}
-use Rattle.schedule.proofs.Runs.{schedule-run}
 use Rattle.words.specs.Words.{kOf, owedOf, wordsOf, recordOf, isRecord}
 use Rattle.words.proofs.RoundTrip.{record-back}
 use Rattle.words.proofs.Widths.{words-are}
 use Rattle.jenturik_c.specs.Face.{face}
 use Rattle.jenturik_c.specs.Flat.{stepsOf, scheduleOf}
-use Rattle.jenturik_c.specs.Runs.{faceRun}
+use Rattle.jenturik_c.proofs.Kept.{Follows, schedule-follows, words-follow, done-kept}
 use Rattle.runs.specs.Runs.{Count}
 use Rattle.runs.specs.Start.{by-fresh}
 use Rattle.runs.proofs.Sound.{checked}
@@ -68,15 +64,6 @@ fits {m} {r} {n} {s} v =
     (omega arith) (omega arith)
     .1
 
--- a schedule of words: its steps, as many as were done
-words-schedule : (v : List ℕ) (s : State)
-    → scheduleOf v s .state ≡ run (take (scheduleOf v s .done) (stepsOf v)) s
-unfolding scheduleOf run
-words-schedule v s =
-    split (λ (f : Followed). f .state ≡ run (take (f .done) (stepsOf v)) s) (eqb (length v % 8) 0)
-    (schedule (stepsOf v) s) (followed 0 (first (check s ∷ 10 ∷ [])) s)
-    (λ k. schedule-run (stepsOf v) s) (λ k. refl)
-
 module _ (h : Lent (List ℕ)) (u : Fit (h .kept)) where
   abbrev s : State
   s = stateOf words h
@@ -85,10 +72,10 @@ module _ (h : Lent (List ℕ)) (u : Fit (h .kept)) where
   unfolding face run
   once-run a = ap left-in (sym (pick-yes _ _ _ _ u refl))
 
-  many-run : (f : State → Followed) (cs : List Step) → f s .state ≡ run (take (f s .done) cs) s
+  many-run : (f : State → Followed) (cs : List Step) → Follows f cs
       → many f h ≡ lend wordsOf (run (take (f s .done) cs) s)
-  unfolding faceRun
-  many-run f cs e = ap left-in-run (sym (pick-yes _ _ _ _ u refl)) ∙ ap (lend wordsOf) e
+  many-run f cs k =
+      ap left-in-run (done-kept (h .left) (h .right) (h .colour) (h .kept) u f cs k)
 
 goes : (c : Call) (h : Lent (List ℕ)) → R.Goes words Fit wordsOf c h (deedOf c (stateOf words h))
 unfolding left-by deedOf
@@ -99,8 +86,8 @@ goes Shade h = λ u. once-run h u shading
 goes (Take p side) h = λ u. once-run h u (taking p side)
 goes Collect h = λ u. once-run h u collecting
 goes (CollectMany n) h =
-    λ u. many-run h u (schedule (collects n)) (collects n) (schedule-run (collects n) _)
-goes (Schedule v) h = λ u. many-run h u (scheduleOf v) (stepsOf v) (words-schedule v _)
+    λ u. many-run h u (schedule (collects n)) (collects n) (schedule-follows (collects n))
+goes (Schedule v) h = λ u. many-run h u (scheduleOf v) (stepsOf v) (words-follow v)
 
 pub words-calls : Demand-calls words
 words-calls =

@@ -53,7 +53,7 @@ pub data Known : Type 0 where
   nothing : Known
   since : (m r : ℕ) → Count → Known
 
--- A start that is accepted begins a run; "Fresh [..] ends the run whatever it answers". Steps go on
+-- [Runs 1] A start that is accepted begins a run, and any start ends the one before. Steps go on
 -- with the run: those that were made in state s are counted.
 unfoldable pub track : Deed → State → Known → Known
 track (starts m r code) s k = pick (eqb code 0) (since m r begun) nothing
