@@ -1,6 +1,31 @@
 // For measuring only: single steps for C. Alone in its module, so that LLVM makes one function of it.
+use rules::Ran;
+use rules::Record;
+ghost use mathlib.Core.Path.{_≡_};
+ghost use Rattle.rules.specs.Table.{state};
+ghost use Rattle.rules.specs.Schedules.{ran, follow, collects};
+ghost use Rattle.bench_steps.specs.Steps.{stepped, steps};
 
-// n single steps, one call of the library each, until one is refused; how many were done.
+// n single steps, one call of `collect` each, until one is refused.
+fn one_by_one(left: &mut [u16], right: &mut [u16], colour: &mut [u8], x: Record, n: usize) -> Ran
+    ensures { λ r. ⌜ ran r (now (left .exit)) (now (right .exit)) (now (colour .exit)) ≡ follow (collects n) 0 (state (now (left .entry)) (now (right .entry)) (now (colour .entry)) x) ⌝ }
+{
+    let mut rec = x;
+    let mut done = 0;
+    while done < n {
+        let made = collector::collect(left, right, colour, rec);
+        rec = made.rec;
+        let answer = made.answer;
+        let code = answer.code();
+        if code != 0 {
+            return Ran { done, code, rec };
+        }
+        done += 1;
+    }
+    Ran { done, code: 0, rec }
+}
+
+// The same over words that C keeps; how many were done.
 #[no_mangle]
 pub extern "C" fn jenturik_steps(
     left: &mut [u16],
@@ -8,25 +33,16 @@ pub extern "C" fn jenturik_steps(
     colour: &mut [u8],
     words: &mut [u32; 16],
     n: usize,
-) -> usize {
+) -> usize
+    ensures { λ d. ⌜ stepped d (now (left .exit)) (now (right .exit)) (now (colour .exit)) (now (words .exit)) ≡ steps n (now (left .entry)) (now (right .entry)) (now (colour .entry)) (now (words .entry)) ⌝ }
+{
     let w = *words;
     if !words::is_record(w) {
         return 0;
     }
-    let mut rec = words::record_of(w);
-    let mut done = 0;
-    while done < n {
-        let made = collector::collect(left, right, colour, rec);
-        rec = made.rec;
-        let answer = made.answer;
-        if answer.code() != 0 {
-            let v = words::words_of(rec);
-            *words = v;
-            return done;
-        }
-        done += 1;
-    }
+    let ran = one_by_one(left, right, colour, words::record_of(w), n);
+    let rec = ran.rec;
     let v = words::words_of(rec);
     *words = v;
-    done
+    ran.done
 }
