@@ -1,4 +1,4 @@
-pub mod Feeds
 pub mod Kept
-pub mod Whole
-pub mod Opening
+pub mod Feeds
+pub mod Parts
+pub mod Stands
