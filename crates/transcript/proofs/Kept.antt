@@ -12,7 +12,7 @@ use Rattle.base.proofs.Tests.{pick-yes, lt-yes}
 use Rattle.rules.specs.Table.{State}
 use Rattle.text.specs.declared.Said.the-variants.{Unreadable}
 use Rattle.text.specs.Grammar.{read}
-use Rattle.transcript.specs.Transcript.{answers}
+use Rattle.transcript.specs.Transcript.{answers, opening}
 
 pub long : (w : List ℕ) → 80 < length w → Unreadable ≡ read w
 unfolding read
@@ -49,4 +49,11 @@ unfolding answers
 kept s w [] = rw (read-kept w, empty-kept w)
 kept s w (b ∷ input) =
     let e = sym (kept s (take 81 w ++ (b ∷ [])) input) ∙ ap (λ (l : List ℕ). answers s l input) (one-more w b) ∙ kept s (w ++ (b ∷ [])) input in
+    rw (read-kept w, e)
+
+pub kept-first : (w input : List ℕ) → opening (take 81 w) input ≡ opening w input
+unfolding opening
+kept-first w [] = rw (read-kept w)
+kept-first w (b ∷ input) =
+    let e = sym (kept-first (take 81 w ++ (b ∷ [])) input) ∙ ap (λ (l : List ℕ). opening l input) (one-more w b) ∙ kept-first (w ++ (b ∷ [])) input in
     rw (read-kept w, e)

@@ -2,3 +2,4 @@ pub mod Kept
 pub mod Feeds
 pub mod Parts
 pub mod Stands
+pub mod Whole
