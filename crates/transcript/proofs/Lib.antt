@@ -3,3 +3,4 @@ pub mod Feeds
 pub mod Parts
 pub mod Stands
 pub mod Whole
+pub mod Listing

@@ -168,12 +168,14 @@ module _ (N n : ℕ) (l k c : List ℕ) (g : Going) (b : ℕ) where
       go : (t : Bool) → eqb b newline ≡ t
           → Ready N n (pick t (begun (stands Opening l k c g)) (stands Opening l k c (gathered g (b ∷ []))))
           × ((input : List ℕ) → all (pick t (begun (stands Opening l k c g)) (stands Opening l k c (gathered g (b ∷ [])))) input ≡ all (stands Opening l k c g) (b ∷ input))
-      go true e =
-          (record { fit = begun-fit N n g f l k c o; left = apart; right = apart; colour = apart },
-          λ input. rw (eqb-true b newline e) (begun-all N n g f l k c o input))
-      go false e =
-          (record { fit = put-fit N n g f b; left = r .left; right = r .right; colour = r .colour },
-          gathered-all N n g f b e)
+      go true e = (
+        record { fit = begun-fit N n g f l k c o; left = apart; right = apart; colour = apart },
+        λ input. rw (eqb-true b newline e) (begun-all N n g f l k c o input),
+      )
+      go false e = (
+        record { fit = put-fit N n g f b; left = r .left; right = r .right; colour = r .colour },
+        gathered-all N n g f b e,
+      )
 
   later-byte : (m : ℕ) → Ready N (suc n) (stands (Serving m) l k c g)
       → Ready N n (eaten (Serving m) (stands (Serving m) l k c g) b) × ((input : List ℕ) → all (eaten (Serving m) (stands (Serving m) l k c g) b) input ≡ all (stands (Serving m) l k c g) (b ∷ input))

@@ -130,6 +130,10 @@ bare Over at = true
 unfoldable pub finish : Stand → Stand
 finish s = pick (bare (s .stage) (s .going .line .used)) (emptied s) (block (newline ∷ []) s)
 
+-- what a read delivered: a block of n bytes, or none, which is the end of the input
+unfoldable pub turn : ℕ → List ℕ → Stand → Stand
+turn n input s = pick (eqb n 0) (finish s) (block (take n input) s)
+
 -- what is printed
 abbrev pub shown : Stand → List ℕ
 shown s = contents (s .going .out)

@@ -11,7 +11,7 @@ ghost use Rattle.rules.specs.Table.{state};
 ghost use Rattle.text.specs.Grammar.{read};
 ghost use Rattle.text.specs.Answers.{written};
 ghost use Rattle.lines.specs.Lines.{prints, later, opened};
-ghost use Rattle.transcript.specs.Feeding.{fold, going, ended, nextByte, fed, newlineFrom, nextLine, placed, stand, begun, eats, emptied, block, bare, finish, isOver, started};
+ghost use Rattle.transcript.specs.Feeding.{fold, going, ended, nextByte, fed, newlineFrom, nextLine, placed, stand, begun, eats, emptied, block, bare, finish, turn, isOver, started};
 
 // The bytes of a line that are kept: one more than a line may have.
 pub const LINE: usize = 81;
@@ -363,4 +363,24 @@ pub fn finish(
         return emptied(s);
     }
     block(left, right, colour, line, out, s, b"\n")
+}
+
+// What a read delivered: n bytes of the input, or none, which is its end.
+pub fn turn(
+    left: &mut [u16],
+    right: &mut [u16],
+    colour: &mut [u8],
+    line: &mut [u8],
+    out: &mut [u8],
+    s: Session,
+    input: &[u8],
+    n: usize,
+) -> Session
+    ensures { λ t. ⌜ stand t (now (left .exit)) (now (right .exit)) (now (colour .exit)) (now (line .exit)) (now (out .exit)) ≡ turn n (now (input .entry)) (stand s (now (left .entry)) (now (right .entry)) (now (colour .entry)) (now (line .entry)) (now (out .entry))) ⌝ }
+{
+    if n == 0 {
+        return finish(left, right, colour, line, out, s);
+    }
+    let end = least(n, input.len());
+    block(left, right, colour, line, out, s, &input[0..end])
 }
