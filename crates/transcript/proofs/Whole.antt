@@ -12,25 +12,21 @@ use Rattle.base.specs.Choice.{pick}
 use Rattle.base.proofs.Tests.{split}
 use Rattle.rules.specs.Table.{State}
 use Rattle.text.specs.Grammar.{read}
-use Rattle.text.specs.Answers.{Written, written, contents, put, putAll}
+use Rattle.text.specs.Answers.{written, widest, contents, put, putAll}
 use Rattle.text.proofs.Outputs.{Longer, put-full, put-longer, longer, said-short}
 use Rattle.lines.specs.Lines.{Line, later, first, opened, entries}
 use Rattle.lines.proofs.Firsts.{Opens, opens-first, fronts}
 use Rattle.transcript.specs.Transcript.{newline, printed, answers, opening, transcript}
-use Rattle.transcript.specs.Feeding.{fold, Going, gathered, ended, nextByte, Stand, placed, stand, begun, eaten, eats, emptied, block, bare, finish, shown, outputs, started}
+use Rattle.transcript.specs.Feeding.{keeps, fold, Going, gathered, ended, nextByte, Stand, placed, stand, begun, eaten, eats, emptied, block, bare, finish, shown, outputs, started}
 use Rattle.transcript.specs.declared.Stage.{Stage}
 use Rattle.transcript.specs.declared.Stage.the-variants.{Opening, Serving, Over}
 use Rattle.transcript.proofs.Kept.{kept, kept-first}
 use Rattle.transcript.proofs.Stands.{stands, begun-apart, over}
 
--- an answer's bytes, at most
-abbrev pub widest : ℕ
-widest = 22
-
 -- the buffers have their sizes, N that of the output, with room for n answers more
 pub record Fit (N n : ℕ) (g : Going) : Type 0 where
-  pub line-size : length (g .line .out) ≡ 81
-  pub line-used : g .line .used ≤ 81
+  pub line-size : length (g .line .out) ≡ keeps
+  pub line-used : g .line .used ≤ keeps
   pub out-size : length (g .out .out) ≡ N
   pub room : g .out .used + widest * n ≤ N
 
@@ -48,29 +44,29 @@ module _ (N n : ℕ) (g : Going) (f : Fit N (suc n) g) where
   -- a byte more, where the line has room for it
   put-fit : (b : ℕ) → Fit N n (gathered g (b ∷ []))
   unfolding putAll
-  put-fit b = go (ltb (g .line .used) 81) refl
+  put-fit b = go (ltb (g .line .used) keeps) refl
     where
-      go : (t : Bool) → ltb (g .line .used) 81 ≡ t → Fit N n (gathered g (b ∷ []))
+      go : (t : Bool) → ltb (g .line .used) keeps ≡ t → Fit N n (gathered g (b ∷ []))
       go true e =
-          let h = ltb-true (g .line .used) 81 e in
+          let h = ltb-true (g .line .used) keeps e in
           let l = put-longer (g .line) b (omega (arith, f .line-size)) in
           record { line-size = l .size ∙ f .line-size; line-used = omega (arith, l .used); out-size = f .out-size; room = omega (arith, f .room) }
       go false e =
-          let h = ltb-false (g .line .used) 81 e in
+          let h = ltb-false (g .line .used) keeps e in
           rw (put-full (g .line) b (omega (arith, f .line-size))) (record { line-size = f .line-size; line-used = f .line-used; out-size = f .out-size; room = omega (arith, f .room) })
 
   -- F reads no more than 81 bytes of a line: a byte that there is no room for is not missed
-  kept-byte : (b : ℕ) (F : List ℕ → List ℕ) → ((w : List ℕ) → F (take 81 w) ≡ F w) → F (contents (put (g .line) b)) ≡ F (contents (g .line) ++ (b ∷ []))
-  kept-byte b F k = go (ltb (g .line .used) 81) refl
+  kept-byte : (b : ℕ) (F : List ℕ → List ℕ) → ((w : List ℕ) → F (take keeps w) ≡ F w) → F (contents (put (g .line) b)) ≡ F (contents (g .line) ++ (b ∷ []))
+  kept-byte b F k = go (ltb (g .line .used) keeps) refl
     where
-      go : (t : Bool) → ltb (g .line .used) 81 ≡ t → F (contents (put (g .line) b)) ≡ F (contents (g .line) ++ (b ∷ []))
+      go : (t : Bool) → ltb (g .line .used) keeps ≡ t → F (contents (put (g .line) b)) ≡ F (contents (g .line) ++ (b ∷ []))
       go true e =
-          let h = ltb-true (g .line .used) 81 e in
+          let h = ltb-true (g .line .used) keeps e in
           rw (put-longer (g .line) b (omega (arith, f .line-size)) .holds)
       go false e =
-          let h = ltb-false (g .line .used) 81 e in
+          let h = ltb-false (g .line .used) keeps e in
           let m = length-take-le (g .line .used) (g .line .out) (omega (arith, f .line-size)) in
-          rw (put-full (g .line) b (omega (arith, f .line-size))) (ap F (sym (take-at (contents (g .line)) (b ∷ []) 81 (omega (arith, f .line-used)))) ∙ k (contents (g .line) ++ (b ∷ [])))
+          rw (put-full (g .line) b (omega (arith, f .line-size))) (ap F (sym (take-at (contents (g .line)) (b ∷ []) keeps (omega (arith, f .line-used)))) ∙ k (contents (g .line) ++ (b ∷ [])))
 
 -- what is to be printed for the rest of the input, where this line is at hand
 abbrev pub pending : Stage → State → List ℕ → List ℕ → List ℕ
@@ -277,7 +273,7 @@ printed-all N (b ∷ blocks) s r h =
     rw (printed-all N blocks (block b s) (p .0) (h .1)) (p .1)
 
 -- however the input is cut, what its blocks print, one after the other, is its transcript
-pub cut : (l k c line out : List ℕ) → entries ≤ length l → entries ≤ length k → entries ≤ length c → length line ≡ 81
+pub cut : (l k c line out : List ℕ) → entries ≤ length l → entries ≤ length k → entries ≤ length c → length line ≡ keeps
     → (blocks : List (List ℕ)) → Short (length out) blocks → outputs (stand started l k c line out) blocks ≡ transcript (flatten blocks)
 cut l k c line out p q s h blocks f =
     printed-all (length out) blocks (stand started l k c line out)

@@ -18,6 +18,10 @@ use Rattle.transcript.specs.declared.Session.{Session}
 use Rattle.transcript.specs.declared.Stage.{Stage}
 use Rattle.transcript.specs.declared.Stage.the-variants.{Opening, Serving, Over}
 
+-- the bytes of a line that are kept: one more than a line may have
+abbrev pub keeps : ℕ
+keeps = 81
+
 -- each byte of the input in its turn
 unfoldable pub fold : {A : Type 0} → (A → ℕ → A) → List ℕ → A → A
 fold f [] a = a
