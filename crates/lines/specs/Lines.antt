@@ -1,9 +1,9 @@
 -- What a line prints, and what it leaves: the section Program of docs/RULES.md.
-use Rattle.base.specs.Choice.{pick}
+use Rattle.base.specs.Choice.{pick, every}
 use Prim.Native.Nat.{ℕ, _-_}
-use mathlib.Core.List.{List, [], _∷_}
-use lib.ListN.{replicate}
-use lib.Dec.{eqb}
+use mathlib.Core.List.{List, [], _∷_, _++_}
+use lib.ListN.{length, getD, take, drop, replicate}
+use lib.Dec.{leb, eqb}
 use Rattle.rules.specs.Table.{State, Outcome, state}
 use Rattle.rules.specs.Fresh.{fresh, freshRecord}
 use Rattle.rules.specs.Records.{position}
@@ -11,9 +11,6 @@ use Rattle.rules.specs.Steps.{step, codeOf, nodeOf}
 use Rattle.rules.specs.Schedules.{schedule, collects}
 use Rattle.text.specs.declared.Said.{Said}
 use Rattle.text.specs.declared.Said.the-variants.{First, Do, Collect, Unreadable}
-use mathlib.Core.Path.{_≡_}
-use lib.ListN.{take, drop}
-use Rattle.lines.specs.declared.Told.{Told}
 
 -- the code and the node that a line prints, and the state that it leaves
 pub record Line : Type 0 where
@@ -57,16 +54,25 @@ first (Do a) = prints 10 0 noTable
 first (Collect n) = prints 10 0 noTable
 first Unreadable = prints 10 0 noTable
 
--- the entries from m on are as they were
-abbrev pub Rest : ℕ → List ℕ → List ℕ → List ℕ → List ℕ → List ℕ → List ℕ → Type 0
-Rest m l r c l₀ r₀ c₀ = (drop m l ≡ drop m l₀) × (drop m r ≡ drop m r₀) × (drop m c ≡ drop m c₀)
+-- the same with the program's own tables, which hold l, k and c: the table is made in their first m entries, and the others stay
+abbrev pub placed : Outcome → List ℕ → List ℕ → List ℕ → Line
+placed o l k c =
+    prints (codeOf (o .answer)) (nodeOf (o .answer))
+    (state (getD (o .state .edges) 0 [] ++ l) (getD (o .state .edges) 1 [] ++ k) (o .state .colour ++ c) (o .state .rec))
 
--- a first line's answer, and the table in the first entries of the program's own [Program 15],
--- which held l₀, r₀ and c₀; where the line is refused the record's M is 0, so that all are as they
--- were
-pub record Begun (t : Told) (l r c l₀ r₀ c₀ : List ℕ) (line : Line) : Type 0 where
-  pub code : t .code ≡ line .code
-  pub node : t .node ≡ line .node
-  pub rec : t .rec ≡ line .state .rec
-  pub table : t .code ≡ 0 → state (take (t .rec .m) l) (take (t .rec .m) r) (take (t .rec .m) c) (t .rec) ≡ line .state
-  pub rest : Rest (t .rec .m) l r c l₀ r₀ c₀
+-- a first line that fails leaves them as they are, and no table
+abbrev pub failed : ℕ → List ℕ → List ℕ → List ℕ → Line
+failed code l k c = prints code 0 (state l k c (freshRecord 0 0 0))
+
+-- [Program 15] a table that has no room in the program's own is too large
+unfoldable pub opened : Said → List ℕ → List ℕ → List ℕ → Line
+opened (First m r) l k c =
+    pick (every (leb m (length l) ∷ leb m (length k) ∷ leb m (length c) ∷ []))
+    (placed (fresh m r (take m l ∷ take m k ∷ []) (take m c)) (drop m l) (drop m k) (drop m c)) (failed 1 l k c)
+opened (Do a) l k c = failed 10 l k c
+opened (Collect n) l k c = failed 10 l k c
+opened Unreadable l k c = failed 10 l k c
+
+-- the entries of the program's own tables
+abbrev pub entries : ℕ
+entries = 4096

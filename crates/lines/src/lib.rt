@@ -6,12 +6,12 @@ use text::Said;
 ghost use mathlib.Core.Path.{_≡_};
 ghost use Prim.Native.Nat.{ℕ, _+_, _≤_, _<_};
 ghost use mathlib.Core.List.{List, [], _∷_};
-ghost use lib.ListN.{length, take};
+ghost use lib.ListN.{length, take, drop};
 ghost use Rattle.rules.specs.Table.{state, outcome};
 ghost use Rattle.rules.specs.Fresh.{fresh};
 ghost use Rattle.rules.specs.Schedules.{ran, schedule, collects};
 ghost use Rattle.text.specs.Grammar.{read};
-ghost use Rattle.lines.specs.Lines.{prints, answered, startOf, collected, later, noTable, first, Rest, Begun};
+ghost use Rattle.lines.specs.Lines.{prints, answered, startOf, collected, later, placed, failed, opened};
 
 // What a line prints, and the record that it leaves.
 pub struct Told {
@@ -118,16 +118,17 @@ pub fn later(left: &mut [u16], right: &mut [u16], colour: &mut [u8], x: Record, 
 
 // A fresh table in the first m entries.
 fn start(left: &mut [u16], right: &mut [u16], colour: &mut [u8], m: usize, r: usize) -> Told
-    requires { ⌜ (m ≤ length (now left)) × ((m ≤ length (now right)) × (m ≤ length (now colour))) ⌝ }
-    ensures { λ t. ⌜ prints (t .code) (t .node) (state (take m (now (left .exit))) (take m (now (right .exit))) (take m (now (colour .exit))) (t .rec)) ≡ answered (fresh m r (take m (now (left .entry)) ∷ take m (now (right .entry)) ∷ []) (take m (now (colour .entry)))) ⌝ }
-    ensures { λ _. ⌜ Rest m (now (left .exit)) (now (right .exit)) (now (colour .exit)) (now (left .entry)) (now (right .entry)) (now (colour .entry)) ⌝ }
+    requires { ⌜ m ≤ length (now left) ⌝ }
+    requires { ⌜ m ≤ length (now right) ⌝ }
+    requires { ⌜ m ≤ length (now colour) ⌝ }
+    ensures { λ t. ⌜ prints (t .code) (t .node) (state (now (left .exit)) (now (right .exit)) (now (colour .exit)) (t .rec)) ≡ placed (fresh m r (take m (now (left .entry)) ∷ take m (now (right .entry)) ∷ []) (take m (now (colour .entry)))) (drop m (now (left .entry))) (drop m (now (right .entry))) (drop m (now (colour .entry))) ⌝ }
 {
     answered(fresh::fresh(&mut left[0..m], &mut right[0..m], &mut colour[0..m], m, r))
 }
 
 // A first line that fails: no table.
 fn refused(code: u8) -> Told
-    ensures { λ t. ⌜ prints (t .code) (t .node) (state [] [] [] (t .rec)) ≡ prints code 0 noTable ⌝ }
+    ensures { λ t. ⌜ ((l k c : List ℕ) → prints (t .code) (t .node) (state l k c (t .rec)) ≡ failed code l k c) ⌝ }
 {
     Told {
         code,
@@ -136,21 +137,26 @@ fn refused(code: u8) -> Told
     }
 }
 
-// A fresh table of m nodes and r slots in tables of 4,096 entries.
+// A fresh table of m nodes and r slots, where the tables have room for it.
 fn begin(left: &mut [u16], right: &mut [u16], colour: &mut [u8], m: u32, r: u32) -> Told
-    requires { ⌜ (4096 ≤ length (now left)) × ((4096 ≤ length (now right)) × (4096 ≤ length (now colour))) ⌝ }
-    ensures { λ t. ⌜ Begun t (now (left .exit)) (now (right .exit)) (now (colour .exit)) (now (left .entry)) (now (right .entry)) (now (colour .entry)) (first (Said.First m r)) ⌝ }
+    ensures { λ t. ⌜ prints (t .code) (t .node) (state (now (left .exit)) (now (right .exit)) (now (colour .exit)) (t .rec)) ≡ opened (Said.First m r) (now (left .entry)) (now (right .entry)) (now (colour .entry)) ⌝ }
 {
-    if 4096 < m {
+    let nodes = m as usize;
+    if left.len() < nodes {
         return refused(1);
     }
-    start(left, right, colour, m as usize, r as usize)
+    if right.len() < nodes {
+        return refused(1);
+    }
+    if colour.len() < nodes {
+        return refused(1);
+    }
+    start(left, right, colour, nodes, r as usize)
 }
 
-// What the first line prints, and the table that it begins.
+// What the first line prints, and the table that it begins in the first entries of the program's own.
 pub fn first(left: &mut [u16], right: &mut [u16], colour: &mut [u8], line: &[u8]) -> Told
-    requires { ⌜ (4096 ≤ length (now left)) × ((4096 ≤ length (now right)) × (4096 ≤ length (now colour))) ⌝ }
-    ensures { λ t. ⌜ Begun t (now (left .exit)) (now (right .exit)) (now (colour .exit)) (now (left .entry)) (now (right .entry)) (now (colour .entry)) (first (read (now (line .entry)))) ⌝ }
+    ensures { λ t. ⌜ prints (t .code) (t .node) (state (now (left .exit)) (now (right .exit)) (now (colour .exit)) (t .rec)) ≡ opened (read (now (line .entry))) (now (left .entry)) (now (right .entry)) (now (colour .entry)) ⌝ }
 {
     let said = text::read(line);
     match said {

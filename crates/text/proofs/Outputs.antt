@@ -9,7 +9,7 @@ use lib.ListN.{length, getD, drop, set, drop-of-length-le, length-append, length
 use lib.Seq.{drop-cons, take-suc-set, append-snoc}
 use Rattle.base.specs.Choice.{pick}
 use Rattle.base.proofs.Tests.{split}
-use Rattle.text.specs.Answers.{digitOf, decimal, said, Written, written, contents, put, putAll}
+use Rattle.text.specs.Answers.{digitOf, decimal, said, Written, written, contents, put, putAll, widest}
 
 pub put-none : (w : Written) → w ≡ putAll w []
 unfolding putAll
@@ -63,7 +63,6 @@ decimal-short : (n : ℕ) → length (decimal n) ≤ 5
 unfolding decimal
 decimal-short n = simp length-append (omega (arith, digit-short n 10000, digit-short n 1000, digit-short n 100, digit-short n 10))
 
--- an answer's line fits into 22 bytes
-pub said-short : (code node : ℕ) → length (said code node) ≤ 22
+pub said-short : (code node : ℕ) → length (said code node) ≤ widest
 unfolding said
 said-short code node = simp length-append (omega (arith, decimal-short code, decimal-short node))

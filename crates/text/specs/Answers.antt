@@ -18,6 +18,10 @@ decimal n = digitOf n 10000 ++ digitOf n 1000 ++ digitOf n 100 ++ digitOf n 10 +
 unfoldable pub said : ℕ → ℕ → List ℕ
 said code node = bytes "code=" ++ decimal code ++ bytes " node=" ++ decimal node ++ (10 ∷ [])
 
+-- an answer's bytes at most
+abbrev pub widest : ℕ
+widest = 22
+
 -- a buffer, and how many of its bytes are used
 pub record Written : Type 0 where
   pub out : List ℕ

@@ -23,7 +23,11 @@ use Rattle.text.specs.declared.Form.{Form}
 unfoldable pub byteAt : List ℕ → ℕ → ℕ
 byteAt line i = getD line i 256
 
--- past the end of every line of at most 80 bytes
+-- the bytes of a line at most
+abbrev pub longest : ℕ
+longest = 80
+
+-- past the end of every line
 abbrev pub lost : ℕ
 lost = 81
 
@@ -70,7 +74,7 @@ lettersAt line (suc more) n word bit i =
 unfoldable pub turnsAt : List ℕ → ℕ → Turns
 turnsAt line i =
     pick (eqb (byteAt line i) 45) (turns 0 0 (i + 1))
-    (pick (eqb (sideAt line i .at) lost) (turns 0 0 lost) (lettersAt line 80 0 0 1 i))
+    (pick (eqb (sideAt line i .at) lost) (turns 0 0 lost) (lettersAt line longest 0 0 1 i))
 
 -- a slot, a word and turns
 unfoldable pub placeAt : List ℕ → ℕ → List ℕ → Spot
@@ -124,7 +128,7 @@ ends line at = eqb at (length line)
 -- the form whose last position is the line's end; [Program 8] a line of at most 80 bytes
 unfoldable pub read : List ℕ → Said
 read line =
-    pick (ltb 80 (length line)) Unreadable
+    pick (ltb longest (length line)) Unreadable
     (pick (ends line (takeLine line .at)) (Do (takeLine line .step))
     (pick (ends line (linkLine line .at)) (Do (linkLine line .step))
     (pick (ends line (shadeLine line .at)) (Do (shadeLine line .step))

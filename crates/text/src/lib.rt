@@ -7,6 +7,22 @@ ghost use Rattle.text.specs.Bytes.{bytes};
 ghost use Rattle.text.specs.Grammar.{byteAt, after, isDigit, digitsAt, numberAt, sideAt, lettersAt, turnsAt, placeAt, takeLine, linkLine, shadeLine, lookLine, collectLine, firstLine, counted, read};
 ghost use Rattle.text.specs.Answers.{digitOf, decimal, said, written, put, putAll};
 
+// The bytes of a line at most, and a position past the end of each line.
+const LONGEST: usize = 80;
+
+const LOST: usize = 81;
+
+// The letters of turns at most: as many as a line has bytes.
+const LETTERS: u32 = 80;
+
+// The digits of a number at most, and the collector steps of a line.
+const DIGITS: u32 = 7;
+
+const COUNT: u32 = 1000000;
+
+// One more than the largest word of twelve turns.
+const WORDS: u32 = 4096;
+
 // What a line says.
 pub enum Said {
     First(u32, u32),
@@ -65,7 +81,7 @@ fn byte_at(line: &[u8], i: usize) -> u16
     256
 }
 
-// The position behind a word that stands at i; 81 where it does not.
+// The position behind a word that stands at i; LOST where it does not.
 fn after(line: &[u8], i: usize, word: &[u8]) -> usize
     ensures { λ r. ⌜ r ≡ after (now (line .entry)) i (now (word .entry)) ⌝ }
 {
@@ -73,7 +89,7 @@ fn after(line: &[u8], i: usize, word: &[u8]) -> usize
     let mut k = 0;
     while k < word.len() {
         if byte_at(line, at) != word[k] as u16 {
-            return 81;
+            return LOST;
         }
         at += 1;
         k += 1;
@@ -95,7 +111,7 @@ fn digits_at(line: &[u8], i: usize) -> Number
 {
     let mut n: u32 = 0;
     let mut at = i;
-    let mut more: u32 = 7;
+    let mut more: u32 = DIGITS;
     while 0 < more {
         let b = byte_at(line, at);
         if !is_digit(b) {
@@ -113,7 +129,7 @@ fn number_at(line: &[u8], i: usize) -> Number
 {
     let b = byte_at(line, i);
     if !is_digit(b) {
-        return Number { value: 0, at: 81 };
+        return Number { value: 0, at: LOST };
     }
     if b == 48 {
         return Number {
@@ -134,7 +150,7 @@ fn side_at(line: &[u8], i: usize) -> Side
     if b == 82 {
         return Side { side: 1, at: i + 1 };
     }
-    Side { side: 0, at: 81 }
+    Side { side: 0, at: LOST }
 }
 
 fn letters_at(line: &[u8], i: usize) -> Turns
@@ -144,15 +160,15 @@ fn letters_at(line: &[u8], i: usize) -> Turns
     let mut word: u32 = 0;
     let mut bit: u32 = 1;
     let mut at = i;
-    let mut more: u32 = 80;
+    let mut more = LETTERS;
     while 0 < more {
         let s = side_at(line, at);
-        if s.at == 81 {
+        if s.at == LOST {
             return Turns { count, word, at };
         }
         count += 1;
-        word = (word + s.side * bit) % 4096;
-        bit = bit * 2 % 4096;
+        word = (word + s.side * bit) % WORDS;
+        bit = bit * 2 % WORDS;
         at = s.at;
         more -= 1;
     }
@@ -170,11 +186,11 @@ fn turns_at(line: &[u8], i: usize) -> Turns
         };
     }
     let s = side_at(line, i);
-    if s.at == 81 {
+    if s.at == LOST {
         return Turns {
             count: 0,
             word: 0,
-            at: 81,
+            at: LOST,
         };
     }
     letters_at(line, i)
@@ -285,7 +301,7 @@ fn first_line(line: &[u8]) -> Sizes
 fn counted(n: u32) -> Said
     ensures { λ r. ⌜ r ≡ counted n ⌝ }
 {
-    if n <= 1000000 {
+    if n <= COUNT {
         return Said::Collect(n);
     }
     Said::Unreadable
@@ -296,7 +312,7 @@ pub fn read(line: &[u8]) -> Said
     ensures { λ r. ⌜ r ≡ read (now (line .entry)) ⌝ }
 {
     let end = line.len();
-    if 80 < end {
+    if LONGEST < end {
         return Said::Unreadable;
     }
     let take = take_line(line);
