@@ -11,7 +11,8 @@ use Rattle.base.specs.Choice.{pick}
 use Rattle.base.proofs.Tests.{every-skip, every-here, le-yes, le-no}
 use Rattle.rules.specs.Table.{State, state}
 use Rattle.rules.specs.Check.{sizeOk}
-use Rattle.rules.specs.Fresh.{fresh, freshLast, freshState, freshRecord}
+use Rattle.rules.specs.Records.{freshRecord}
+use Rattle.rules.specs.Fresh.{fresh, freshLast, freshState}
 use Rattle.rules.specs.declared.Record.{Record}
 use Rattle.rules.specs.declared.Answer.the-variants.{Started, Refused}
 use Rattle.text.specs.declared.Said.the-variants.{First}

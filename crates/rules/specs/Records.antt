@@ -1,4 +1,4 @@
--- The record's steps. Document 01, "The record", "Editor steps" and "Collector steps".
+-- The record: how Fresh makes it, and its steps. Document 01, "The record", "Editor steps" and "Collector steps".
 use Rattle.base.specs.Choice.{pick}
 use Prim.Native.Nat.{ℕ, _+_, _%_}
 use lib.Dec.{ltb, eqb}
@@ -17,7 +17,23 @@ position (Right i) = i
 position (Black i) = i
 position (Append i) = i
 
--- The one list of the fields: x with these in place of its own. M and R stay as Fresh made them.
+-- "Roots 0, nothing owed, all counts 0"
+abbrev pub freshRecord : ℕ → ℕ → ℕ → Record
+freshRecord m r last =
+    record {
+      m = m;
+      r = r;
+      phase = Roots 0;
+      owed = Nothing;
+      last = last;
+      steps = 0;
+      cycles = 0;
+      took = 0;
+      blackened = 0;
+      inuse = 0;
+    }
+
+-- x with these in place of its own; all that follows is made by it. M and R stay as Fresh made them.
 abbrev pub remade : Record → Phase → Owed → ℕ → ℕ → ℕ → ℕ → ℕ → ℕ → Record
 remade x phase owed last steps cycles took blackened inuse =
     record {
