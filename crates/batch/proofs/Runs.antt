@@ -10,14 +10,14 @@ use Rattle.rules.specs.declared.Record.{Record}
 use Rattle.rules.specs.declared.Answer.{Answer}
 use Rattle.rules.specs.declared.Answer.the-variants.{Refused}
 use Rattle.rules.specs.Table.{State, Outcome, state, refuse}
-use Rattle.rules.specs.Check.{bound, check}
+use Rattle.rules.specs.Check.{bound, cycleOk, check}
 use Rattle.rules.specs.Collector.{phaseStep, collect}
 use Rattle.rules.specs.Steps.{step, collecting, codeOf}
 use Rattle.rules.specs.Facts.{Good, Inside}
 use Rattle.rules.proofs.Good.{good, inside}
 use Rattle.rules.proofs.Refused.{refused-stays}
 use Rattle.rules.proofs.Laws.{step-collecting, unless-refused}
-use Rattle.strides.specs.Leads.{lasted, more, Passes, Room, Leads, fineOk}
+use Rattle.strides.specs.Leads.{lasted, more, Passes, Room, Leads}
 use Rattle.strides.proofs.Steady.{count, Kept, kept, steps-below, passes-again, now-spoilt}
 use Rattle.strides.proofs.Strides.{step-is, done-on}
 use Rattle.batch.specs.Turns.{Turn}
@@ -74,7 +74,7 @@ module _ (b : ℕ) (s : State) (d : ℕ) (a : Answer) (t : State) (p : Turn b s 
   pub gone-on : (n e k : ℕ) (a₀ : Answer) → n ≡ d + suc k → codeOf a ≡ 0 → more n e a₀ s ≡ more k (e + d + 1) a t
   gone-on n e k a₀ h f = rw h (p .goes f k e a₀)
 
-  pub spoilt-end : false ≡ fineOk b (t .rec) → codeOf a ≡ 0 → (n e : ℕ) (a₀ r : Answer) → d < n - e → (e + d + 1 < n → r ≡ Refused 2 0)
+  pub spoilt-end : false ≡ cycleOk (t .rec) b → codeOf a ≡ 0 → (n e : ℕ) (a₀ r : Answer) → d < n - e → (e + d + 1 < n → r ≡ Refused 2 0)
       → (n ≤ e + d + 1 → r ≡ a) → lasted (e + d + 1) r t ≡ more (n - e) e a₀ s
   spoilt-end h f n e a₀ r l v w =
       spoilt-run t (p .spoilt h) (n - (e + d + 1)) (e + d + 1) a r (λ q. v (omega arith)) (λ q. w (omega arith))

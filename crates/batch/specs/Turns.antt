@@ -3,10 +3,10 @@ use Prim.Native.Nat.{ℕ, suc, _+_}
 use mathlib.Core.Path.{_≡_}
 use mathlib.Core.Bool.{true, false}
 use Rattle.rules.specs.Table.{State}
-use Rattle.rules.specs.Check.{check}
+use Rattle.rules.specs.Check.{cycleOk, check}
 use Rattle.rules.specs.Steps.{codeOf}
 use Rattle.rules.specs.declared.Answer.{Answer}
-use Rattle.strides.specs.Leads.{lasted, more, Passes, fineOk}
+use Rattle.strides.specs.Leads.{lasted, more, Passes}
 
 -- from s on d steps, and then one that answers a and leaves t, b being B
 pub record Turn (b : ℕ) (s : State) (d : ℕ) (a : Answer) (t : State) : Type 0 where
@@ -14,5 +14,5 @@ pub record Turn (b : ℕ) (s : State) (d : ℕ) (a : Answer) (t : State) : Type 
   pub r : t .rec .r ≡ s .rec .r
   pub goes : codeOf a ≡ 0 → (n e : ℕ) (a₀ : Answer) → more (d + suc n) e a₀ s ≡ more n (e + d + 1) a t
   pub stops : (codeOf a ≡ 0 → ⊥) → (n e : ℕ) (a₀ : Answer) → more (d + suc n) e a₀ s ≡ lasted (e + d) a t
-  pub passes : true ≡ fineOk b (t .rec) → Passes t
-  pub spoilt : false ≡ fineOk b (t .rec) → 2 ≡ check t
+  pub passes : true ≡ cycleOk (t .rec) b → Passes t
+  pub spoilt : false ≡ cycleOk (t .rec) b → 2 ≡ check t

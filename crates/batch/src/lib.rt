@@ -99,7 +99,7 @@ fn turns(
             return Many { done, answer, rec };
         }
         done += 1;
-        if !strides::fine(b, rec) {
+        if !rules::cycle_ok(rec, b) {
             return Many {
                 done,
                 answer: ended(done, n, answer),

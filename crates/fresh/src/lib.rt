@@ -1,15 +1,14 @@
 // Fresh: a table with every node white and the free list in rising order, and its record.
 use rules::Answer;
 use rules::Made;
-use rules::Owed;
-use rules::Phase;
 use rules::Record;
 ghost use mathlib.Core.Path.{_≡_};
 ghost use mathlib.Core.List.{[], _∷_};
 ghost use Prim.Native.Nat.{_<_, _≤_};
 ghost use lib.ListN.{length};
 ghost use Rattle.rules.specs.Table.{state, outcome};
-ghost use Rattle.rules.specs.Fresh.{nextFree, freshLeft, freshLast, freshRecord, freshState, fresh};
+ghost use Rattle.rules.specs.Records.{freshRecord};
+ghost use Rattle.rules.specs.Fresh.{nextFree, freshLeft, freshLast, freshState, fresh};
 
 // The node after n on the free list.
 fn next_free(m: u16, n: u16) -> u16
@@ -62,30 +61,6 @@ fn last_of(m: u16, r: u16) -> u16
     1
 }
 
-fn record_of(m: u16, r: u16, last: u16) -> Record
-    ensures { λ x. ⌜ x ≡ freshRecord m r last ⌝ }
-{
-    Record {
-        m,
-        r,
-        phase: Phase::Roots(0),
-        owed: Owed::Nothing,
-        last,
-        steps: 0,
-        cycles: 0,
-        took: 0,
-        blackened: 0,
-        inuse: 0,
-    }
-}
-
-// The record where there is no table.
-pub fn no_table() -> Record
-    ensures { λ x. ⌜ x ≡ freshRecord 0 0 0 ⌝ }
-{
-    record_of(0, 0, 0)
-}
-
 // A fresh table of m nodes and r slots, and its record. Refused: 1.
 pub fn fresh(left: &mut [u16], right: &mut [u16], colour: &mut [u8], m: usize, r: usize) -> Made
     ensures { λ d. ⌜ outcome d (now (left .exit)) (now (right .exit)) (now (colour .exit)) ≡ fresh m r (now (left .entry) ∷ now (right .entry) ∷ []) (now (colour .entry)) ⌝ }
@@ -93,7 +68,7 @@ pub fn fresh(left: &mut [u16], right: &mut [u16], colour: &mut [u8], m: usize, r
     if !rules::size_ok(m, r, left.len(), right.len(), colour.len()) {
         return Made {
             answer: Answer::Refused(1, 0),
-            rec: no_table(),
+            rec: Record::fresh(0, 0, 0),
         };
     }
     let nodes = m as u16;
@@ -102,6 +77,6 @@ pub fn fresh(left: &mut [u16], right: &mut [u16], colour: &mut [u8], m: usize, r
     let last = last_of(nodes, slots);
     Made {
         answer: Answer::Started(last),
-        rec: record_of(nodes, slots, last),
+        rec: Record::fresh(nodes, slots, last),
     }
 }

@@ -12,7 +12,8 @@ use Rattle.base.specs.Choice.{pick, every}
 use Rattle.base.proofs.Tests.{every-skip, every-here, every-last, each, split, le-yes, le-no}
 use Rattle.rules.specs.Table.{State, Outcome, state}
 use Rattle.rules.specs.Check.{sizeOk}
-use Rattle.rules.specs.Fresh.{tabulate, fresh, freshLast, freshState, freshRecord}
+use Rattle.rules.specs.Records.{freshRecord}
+use Rattle.rules.specs.Fresh.{tabulate, fresh, freshLast, freshState}
 use Rattle.rules.specs.declared.Answer.the-variants.{Started, Refused}
 use Rattle.text.specs.declared.Said.{Said}
 use Rattle.text.specs.declared.Said.the-variants.{First, Do, Collect, Unreadable}

@@ -5,8 +5,8 @@ use mathlib.Core.List.{List, [], _∷_, _++_}
 use lib.ListN.{length, getD, take, drop, replicate}
 use lib.Dec.{leb, eqb}
 use Rattle.rules.specs.Table.{State, Outcome, state}
-use Rattle.rules.specs.Fresh.{fresh, freshRecord}
-use Rattle.rules.specs.Records.{position}
+use Rattle.rules.specs.Fresh.{fresh}
+use Rattle.rules.specs.Records.{position, freshRecord}
 use Rattle.rules.specs.Steps.{step, codeOf, nodeOf}
 use Rattle.rules.specs.Schedules.{schedule, collects}
 use Rattle.text.specs.declared.Said.{Said}

@@ -133,7 +133,7 @@ fn refused(code: u8) -> Told
     Told {
         code,
         node: 0,
-        rec: fresh::no_table(),
+        rec: Record::fresh(0, 0, 0),
     }
 }
 

@@ -9,9 +9,9 @@ use borrow.Author.Tests.{eqb-true, eqb-false}
 use Rattle.base.proofs.Tests.{each, not-yes}
 use Rattle.base.specs.Choice.{pick, every, first}
 use Rattle.rules.specs.Table.{State, sides, Outcome, state, did, refuse, unless, black, left, right, edgeOf, edge, withEdge, cleared, colourOf, withColour, shadeIn, shade, badEdge}
-use Rattle.rules.specs.Records.{withPhase, withOwed, withLast, withSteps, withInuse, owing, moved, marked, rescan, oneMore, afterAppend}
-use Rattle.rules.specs.Check.{sizeOk, phaseOk, owedOk, lastOk, bound, countsOk, recordOk, checkOf, check}
-use Rattle.rules.specs.Fresh.{tabulate, nextFree, freshLeft, freshLast, freshRecord, freshState, fresh}
+use Rattle.rules.specs.Records.{freshRecord, withPhase, withOwed, withLast, withSteps, withInuse, owing, moved, marked, rescan, oneMore, afterAppend}
+use Rattle.rules.specs.Check.{sizeOk, phaseOk, owedOk, lastOk, bound, cycleOk, toldOk, countsOk, recordOk, checkOf, check}
+use Rattle.rules.specs.Fresh.{tabulate, nextFree, freshLeft, freshLast, freshState, fresh}
 use Rattle.rules.specs.Places.{sidesOk, turnsOk, placeCode, walkFrom, walk, arrive}
 use Rattle.rules.specs.Editor.{sideCode, owedCode, look, depart, linkTo, link, pay, shadeOwed, badFree, relink, takeNext, takeFirst, take}
 use Rattle.rules.specs.Collector.{shadeStep, afterRoots, scanStep, edgeStep, blackStep, append, appendWhite, appendStep, phaseStep, collect}
@@ -239,5 +239,5 @@ not-promised r c e =
     (sym (eqb-true _ _ (t .0)) ∙ ap (r .seen) e ∙ eqb-true _ _ (t .1 .0))
 
 pub ruled-out : every (map caught table) ≡ true
-unfolding pick every first unless edgeOf withEdge cleared shadeIn badEdge oneMore afterAppend sizeOk phaseOk owedOk lastOk bound countsOk recordOk checkOf tabulate nextFree freshLeft freshLast freshState fresh sidesOk turnsOk placeCode walkFrom arrive sideCode owedCode look depart linkTo link pay shadeOwed badFree relink takeNext takeFirst take shadeStep afterRoots scanStep edgeStep blackStep append appendWhite appendStep phaseStep collect step run collects
+unfolding pick every first unless edgeOf withEdge cleared shadeIn badEdge oneMore afterAppend sizeOk phaseOk owedOk lastOk bound cycleOk toldOk countsOk recordOk checkOf tabulate nextFree freshLeft freshLast freshState fresh sidesOk turnsOk placeCode walkFrom arrive sideCode owedCode look depart linkTo link pay shadeOwed badFree relink takeNext takeFirst take shadeStep afterRoots scanStep edgeStep blackStep append appendWhite appendStep phaseStep collect step run collects
 ruled-out = refl

@@ -8,9 +8,9 @@ use native.Mathlib.Omega.{arith}
 use lib.Dec.{ltb, leb, eqb}
 use borrow.Author.Tests.{ltb-true, leb-true}
 use Rattle.base.specs.Choice.{every, pick}
-use Rattle.base.proofs.Tests.{each, facts}
-use Rattle.rules.specs.Check.{sizeOk, phaseOk, owedOk, lastOk, bound, countsOk, recordOk, checkOf}
-use Rattle.rules.specs.Facts.{Good, Inside, Owable}
+use Rattle.base.proofs.Tests.{each, facts, tests}
+use Rattle.rules.specs.Check.{sizeOk, phaseOk, owedOk, lastOk, bound, cycleOk, toldOk, countsOk, recordOk, checkOf}
+use Rattle.rules.specs.Facts.{Good, Tells, Inside, Owable}
 use Rattle.rules.specs.declared.Record.{Record}
 use Rattle.rules.specs.declared.Phase.{Phase}
 use Rattle.rules.specs.declared.Phase.the-variants.{Roots, Scan, Left, Right, Black, Append}
@@ -46,17 +46,26 @@ inside-of m r (Right i) e = ltb-true _ _ e
 inside-of m r (Black i) e = ltb-true _ _ e
 inside-of m r (Append i) e = ltb-true _ _ e
 
+-- what earlier cycles told, as facts and as a test
+pub tells : (x : Record) (b : ℕ) → true ≡ toldOk x b → Tells x b
+unfolding toldOk
+tells x b e = let f = each _ e in omega facts
+
+pub tells-ok : (x : Record) (b : ℕ) → Tells x b → true ≡ toldOk x b
+unfolding toldOk
+tells-ok x b t = search (tests, t) depth 12
+
 owable-of : (m : ℕ) (o : Owed) → owedOk m o ≡ true → Owable m o
 unfolding owedOk
 owable-of m Nothing e = tt
 owable-of m (Node n) e = ltb-true _ _ (each _ (sym e) .1 .0)
 
 pub good : (ll rl cl : ℕ) (x : Record) → 0 ≡ checkOf (ll ∷ rl ∷ []) cl x → Good ll rl cl x
-unfolding sizeOk recordOk countsOk bound
+unfolding sizeOk recordOk countsOk cycleOk bound
 good ll rl cl x e =
     let s = each _ (passes (ll ∷ rl ∷ []) cl x e .0) in
     let k = each _ (passes (ll ∷ rl ∷ []) cl x e .1) in
-    let n = each _ (sym (k .1 .1 .1 .0)) in
+    let n = each _ (sym (each _ (sym (k .1 .1 .1 .0)) .0)) in
     let h : x .m ≤ 4096 = omega facts in
     let q = square (x .m) h in
     let l = last-of (x .m) (x .r) (x .last) (k .1 .1 .0) (omega facts) in

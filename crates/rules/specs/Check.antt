@@ -40,9 +40,16 @@ lastOk m r n = eqb n FREE || every (leb (r + 2) n ∷ ltb n m ∷ [])
 unfoldable pub bound : ℕ → ℕ → ℕ → ℕ
 bound E m r = m * m + (3 + E) * m + r + 2
 
--- [Codes 2] the counts, b being B
+-- [Codes 2] what the cycle counts, b being B
+unfoldable pub cycleOk : Record → ℕ → Bool
+cycleOk x b = every (leb (x .blackened) (x .m) ∷ ltb (x .steps) b ∷ [])
+
+-- [Codes 2] what earlier cycles told
+unfoldable pub toldOk : Record → ℕ → Bool
+toldOk x b = every (leb (x .inuse) (x .m) ∷ leb (x .took) b ∷ [])
+
 unfoldable pub countsOk : Record → ℕ → Bool
-countsOk x b = every (leb (x .blackened) (x .m) ∷ leb (x .inuse) (x .m) ∷ ltb (x .steps) b ∷ leb (x .took) b ∷ [])
+countsOk x b = every (cycleOk x b ∷ toldOk x b ∷ [])
 
 unfoldable pub recordOk : ℕ → Record → Bool
 recordOk E x =

@@ -21,6 +21,11 @@ abbrev pub Owable : ℕ → Owed → Type 0
 Owable m Nothing = Unit {0}
 Owable m (Node n) = n < m
 
+-- what earlier cycles told, b being B
+pub record Tells (x : Record) (b : ℕ) : Type 0 where
+  pub in-use : x .inuse ≤ x .m
+  pub took : x .took ≤ b
+
 pub record Good (ll rl cl : ℕ) (x : Record) : Type 0 where
   pub m-low : 3 ≤ x .m
   pub m-high : x .m ≤ 4096

@@ -5,11 +5,9 @@ use mathlib.Core.List.{List, [], _∷_, _++_, map}
 use lib.ListN.{length, replicate}
 use lib.Dec.{ltb, eqb}
 use Rattle.rules.specs.Table.{State, Outcome, table, white, FREE}
+use Rattle.rules.specs.Records.{freshRecord}
 use Rattle.rules.specs.Check.{sizeOk}
-use Rattle.rules.specs.declared.Record.{Record}
 use Rattle.rules.specs.declared.Answer.the-variants.{Started, Refused}
-use Rattle.rules.specs.declared.Phase.the-variants.{Roots}
-use Rattle.rules.specs.declared.Owed.the-variants.{Nothing}
 
 -- f 0, f 1, .., f (n - 1)
 unfoldable pub tabulate : (ℕ → ℕ) → ℕ → List ℕ
@@ -35,11 +33,6 @@ allWhite n = white
 -- [Record 5] the last free node; FREE where none is free
 unfoldable pub freshLast : ℕ → ℕ → ℕ
 freshLast m r = pick (ltb (r + 2) m) (m - 1) FREE
-
--- [Fresh 5] the record
-abbrev pub freshRecord : ℕ → ℕ → ℕ → Record
-freshRecord m r last =
-    record { m = m; r = r; phase = Roots 0; owed = Nothing; last = last; steps = 0; cycles = 0; took = 0; blackened = 0; inuse = 0 }
 
 unfoldable pub freshState : ℕ → ℕ → ℕ → State
 freshState E m r =

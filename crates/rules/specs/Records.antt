@@ -1,5 +1,5 @@
--- How a step moves the record. [Record 12] Each definition names every field: what is not told to
--- change is as it was.
+-- The record: how Fresh makes it, and how a step moves it. [Record 12] What is not told to change
+-- is as it was.
 use Rattle.base.specs.Choice.{pick}
 use Prim.Native.Nat.{ℕ, _+_, _%_}
 use lib.Dec.{ltb, eqb}
@@ -18,7 +18,23 @@ position (Right i) = i
 position (Black i) = i
 position (Append i) = i
 
--- The one list of the fields: x with these in place of its own. M and R stay as Fresh made them.
+-- [Fresh 5] the record that Fresh makes
+abbrev pub freshRecord : ℕ → ℕ → ℕ → Record
+freshRecord m r last =
+    record {
+      m = m;
+      r = r;
+      phase = Roots 0;
+      owed = Nothing;
+      last = last;
+      steps = 0;
+      cycles = 0;
+      took = 0;
+      blackened = 0;
+      inuse = 0;
+    }
+
+-- x with these in place of its own; all that follows is made by it. M and R stay as Fresh made them.
 abbrev pub remade : Record → Phase → Owed → ℕ → ℕ → ℕ → ℕ → ℕ → ℕ → Record
 remade x phase owed last steps cycles took blackened inuse =
     record {

@@ -4,8 +4,8 @@
 ghost use mathlib.Core.Path.{_≡_};
 ghost use mathlib.Core.List.{[], _∷_};
 ghost use Prim.Native.Nat.{_+_, _*_, _<_, _≤_};
-ghost use Rattle.rules.specs.Records.{position, withPhase, withOwed, withLast, owing, paid, moved, marked, rescan, oneMore, closed, afterAppend};
-ghost use Rattle.rules.specs.Check.{sizeOk, phaseOk, owedOk, lastOk, bound, countsOk, recordOk, checkOf};
+ghost use Rattle.rules.specs.Records.{position, freshRecord, withPhase, withOwed, withLast, owing, paid, moved, marked, rescan, oneMore, closed, afterAppend};
+ghost use Rattle.rules.specs.Check.{sizeOk, phaseOk, owedOk, lastOk, bound, cycleOk, toldOk, countsOk, recordOk, checkOf};
 ghost use Rattle.rules.specs.Steps.{codeOf, nodeOf};
 
 // Where the collector is: six cases, each with its own position.
@@ -179,19 +179,33 @@ pub fn bound(m: u16, r: u16) -> u32
     n * n + 5 * n + r as u32 + 2
 }
 
-fn counts_ok(x: Record, b: u32) -> bool
-    ensures { λ ok. ⌜ ok ≡ countsOk x b ⌝ }
+// What the cycle counts, b being B.
+pub fn cycle_ok(x: Record, b: u32) -> bool
+    ensures { λ ok. ⌜ ok ≡ cycleOk x b ⌝ }
 {
     if x.m < x.blackened {
         return false;
     }
+    x.steps < b
+}
+
+// What earlier cycles told.
+fn told_ok(x: Record, b: u32) -> bool
+    ensures { λ ok. ⌜ ok ≡ toldOk x b ⌝ }
+{
     if x.m < x.inuse {
         return false;
     }
-    if b <= x.steps {
+    x.took <= b
+}
+
+fn counts_ok(x: Record, b: u32) -> bool
+    ensures { λ ok. ⌜ ok ≡ countsOk x b ⌝ }
+{
+    if !cycle_ok(x, b) {
         return false;
     }
-    x.took <= b
+    told_ok(x, b)
 }
 
 fn record_ok(x: Record) -> bool
@@ -249,6 +263,24 @@ fn one_more(n: u32) -> u32
 }
 
 impl Record {
+    // Roots 0, nothing owed, all counts 0.
+    pub fn fresh(m: u16, r: u16, last: u16) -> Record
+        ensures { λ x. ⌜ x ≡ freshRecord m r last ⌝ }
+    {
+        Record {
+            m,
+            r,
+            phase: Phase::Roots(0),
+            owed: Owed::Nothing,
+            last,
+            steps: 0,
+            cycles: 0,
+            took: 0,
+            blackened: 0,
+            inuse: 0,
+        }
+    }
+
     // The record made anew: a field that is an enum cannot be stored to.
     fn placed(self, phase: Phase, owed: Owed) -> Record
         ensures { λ r. ⌜ r ≡ withOwed (withPhase self phase) owed ⌝ }

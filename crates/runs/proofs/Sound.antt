@@ -12,7 +12,9 @@ use lib.Dec.{eqb}
 use Rattle.base.specs.Choice.{every}
 use Rattle.base.proofs.Tests.{lt-yes, le-yes, eq-yes, eq-no, or-first, or-skip, not-is, every-skip, every-last, pick-yes, tests}
 use Rattle.rules.specs.Table.{State, edge, colourOf}
-use Rattle.rules.specs.Check.{sizeOk, phaseOk, owedOk, lastOk, bound, countsOk, recordOk, checkOf, check}
+use Rattle.rules.specs.Check.{sizeOk, phaseOk, owedOk, lastOk, bound, cycleOk, countsOk, recordOk, checkOf, check}
+use Rattle.rules.specs.Facts.{Tells}
+use Rattle.rules.proofs.Good.{tells-ok}
 use Rattle.rules.specs.declared.Phase.{Phase}
 use Rattle.rules.specs.declared.Owed.{Owed}
 use Rattle.rules.specs.declared.Owed.the-variants.{Nothing, Node}
@@ -63,8 +65,7 @@ pub record Fits (E : ℕ) (s : State) : Type 0 where
   pub r-high : s .rec .r ≤ 64
   pub room : s .rec .r + 2 ≤ s .rec .m
   pub colours : length (s .colour) ≡ s .rec .m
-  pub in-use : s .rec .inuse ≤ s .rec .m
-  pub took : s .rec .took ≤ bound E (s .rec .m) (s .rec .r)
+  pub told : Tells (s .rec) (bound E (s .rec .m) (s .rec .r))
 
 pub record Sound (E : ℕ) (s : State) : Type 0 where
   pub rows : Rows E (s .rec .m) (s .edges)
@@ -110,8 +111,8 @@ last-ok {r = r} l (inr q) =
     or-skip _ _ _ (eq-no l 1 (omega arith)) (every-skip _ _ _ (le-yes (r + 2) l (omega arith)) (every-last _ _ (lt-yes _ _ (q .1))))
 
 counts-ok : {E : ℕ} {s : State} → Sound E s → true ≡ countsOk (s .rec) (bound E (s .rec .m) (s .rec .r))
-unfolding countsOk
-counts-ok g = search (tests, blackened-le (g .bill), g .fits .in-use, cycle-goes g, g .fits .took) depth 7
+unfolding countsOk cycleOk
+counts-ok {s} g = search (tests, blackened-le (g .bill), cycle-goes g, tells-ok (s .rec) _ (g .fits .told)) depth 7
 
 record-ok : {E : ℕ} {s : State} → Sound E s → true ≡ recordOk E (s .rec)
 unfolding recordOk

@@ -1,4 +1,4 @@
--- A step of a record that passes leaves one that passes again, but for the two counts that `fineOk` looks at.
+-- A step of a record that passes leaves one that passes again, but for the two counts that `cycleOk` looks at.
 use Prim.Native.Nat.{ℕ, _+_, _-_, _≤_, _<_}
 use mathlib.Core.Path.{_≡_, refl, sym, _∙_}
 use mathlib.Core.Bool.{Bool, true, false, _||_, true≢false}
@@ -15,12 +15,11 @@ use Rattle.rules.specs.declared.Phase.{Phase}
 use Rattle.rules.specs.declared.Phase.the-variants.{Roots, Scan, Left, Right, Black, Append}
 use Rattle.rules.specs.Table.{State, Outcome, cleared, shadeIn}
 use Rattle.rules.specs.Records.{withLast, moved, marked, rescan, afterAppend}
-use Rattle.rules.specs.Check.{sizeOk, phaseOk, owedOk, lastOk, bound, countsOk, recordOk, checkOf, check}
+use Rattle.rules.specs.Check.{sizeOk, phaseOk, owedOk, lastOk, bound, cycleOk, toldOk, countsOk, recordOk, checkOf, check}
 use Rattle.rules.specs.Collector.{shadeStep, afterRoots, scanStep, edgeStep, blackStep, append, appendWhite, appendStep, phaseStep}
-use Rattle.rules.specs.Facts.{Inside}
-use Rattle.rules.proofs.Good.{passes, inside}
+use Rattle.rules.specs.Facts.{Tells, Inside}
+use Rattle.rules.proofs.Good.{passes, inside, tells, tells-ok}
 use Rattle.rules.proofs.Rows.{edge-lengths, cleared-lengths, clear-colour}
-use Rattle.strides.specs.Leads.{fineOk}
 
 -- y passes wherever x does, but for its steps and its blackened
 pub record Steady (E : ℕ) (x y : Record) : Type 0 where
@@ -29,8 +28,7 @@ pub record Steady (E : ℕ) (x y : Record) : Type 0 where
   pub owed : y .owed ≡ x .owed
   pub phase : true ≡ phaseOk (x .m) (x .r) (y .phase)
   pub last : true ≡ lastOk (x .m) (x .r) (y .last)
-  pub inuse : true ≡ leb (y .inuse) (x .m)
-  pub took : true ≡ leb (y .took) (bound E (x .m) (x .r))
+  pub told : Tells y (bound E (x .m) (x .r))
 
 -- the number of edges of a node
 abbrev pub count : State → ℕ
@@ -92,16 +90,17 @@ record Passed (E : ℕ) (x : Record) : Type 0 where
   steps : x .steps < bound E (x .m) (x .r)
 
 passed : (ls : List ℕ) (cl : ℕ) (x : Record) → 0 ≡ checkOf ls cl x → Passed (length ls) x
-unfolding sizeOk recordOk countsOk
+unfolding sizeOk recordOk countsOk cycleOk
 passed ls cl x e =
     let g = each _ (passes ls cl x e .0) in
     let f = each _ (passes ls cl x e .1) in
     let n = each _ (sym (f .1 .1 .1 .0)) in
+    let k = each _ (sym (n .0)) in
     record {
       low = leb-true _ _ (g .0);
-      self = record { m = refl; r = refl; owed = refl; phase = sym (f .0); last = sym (f .1 .1 .0); inuse = sym (n .1 .0); took = sym (n .1 .1 .1 .0) };
-      blackened = leb-true _ _ (n .0);
-      steps = ltb-true _ _ (n .1 .1 .0);
+      self = record { m = refl; r = refl; owed = refl; phase = sym (f .0); last = sym (f .1 .1 .0); told = tells x _ (sym (n .1 .0)) };
+      blackened = leb-true _ _ (k .0);
+      steps = ltb-true _ _ (k .1 .0);
     }
 
 pub steps-below : (ls : List ℕ) (cl : ℕ) (x : Record) → 0 ≡ checkOf ls cl x → x .steps < bound (length ls) (x .m) (x .r)
@@ -115,22 +114,22 @@ module _ (s : State) (g : Passed (count s) (s .rec)) where
   x = s .rec
 
   moved-steady : (p : Phase) → true ≡ phaseOk (x .m) (x .r) p → Steady E x (moved x p)
-  moved-steady p h = record { m = refl; r = refl; owed = refl; phase = h; last = g .self .last; inuse = g .self .inuse; took = g .self .took }
+  moved-steady p h = record { m = refl; r = refl; owed = refl; phase = h; last = g .self .last; told = omega (arith, g) }
 
   marked-steady : Steady E x (marked x)
   marked-steady =
-      record { m = refl; r = refl; owed = refl; phase = append-ok _ _ _ (omega (arith, g)); last = g .self .last; inuse = le-yes _ _ (g .blackened); took = g .self .took }
+      record { m = refl; r = refl; owed = refl; phase = append-ok _ _ _ (omega (arith, g)); last = g .self .last; told = omega (arith, g) }
 
   rescan-steady : (i : ℕ) → i < x .m → Steady E x (rescan x i)
   rescan-steady i h =
-      record { m = refl; r = refl; owed = refl; phase = scan-ok _ _ _ _ (mod-lt (i + 1) (omega arith)) (omega arith) (omega arith); last = g .self .last; inuse = g .self .inuse; took = g .self .took }
+      record { m = refl; r = refl; owed = refl; phase = scan-ok _ _ _ _ (mod-lt (i + 1) (omega arith)) (omega arith) (omega arith); last = g .self .last; told = omega (arith, g) }
 
   after-steady : (i n : ℕ) → i < x .m → true ≡ lastOk (x .m) (x .r) n → Steady E x (afterAppend (withLast x n) i)
   unfolding afterAppend
   after-steady i n h k =
       split (Steady E x) _ _ _
-      (λ e. record { m = refl; r = refl; owed = refl; phase = root-ok (x .m) (x .r) 0 (omega arith); last = k; inuse = g .self .inuse; took = le-yes (x .steps + 1) (bound E (x .m) (x .r)) (omega (arith, g)) })
-      (λ e. let q = eqb-false (i + 1) (x .m) e in record { m = refl; r = refl; owed = refl; phase = append-ok _ _ _ (omega arith); last = k; inuse = g .self .inuse; took = g .self .took })
+      (λ e. record { m = refl; r = refl; owed = refl; phase = root-ok (x .m) (x .r) 0 (omega arith); last = k; told = omega (arith, g) })
+      (λ e. let q = eqb-false (i + 1) (x .m) e in record { m = refl; r = refl; owed = refl; phase = append-ok _ _ _ (omega arith); last = k; told = omega (arith, g) })
 
   abbrev K : Outcome → Type 0
   K = Kept s
@@ -183,18 +182,19 @@ module _ (s : State) (g : Passed (count s) (s .rec)) where
 pub kept : (s : State) → 0 ≡ check s → Kept s (phaseStep s (s .rec .phase))
 kept s e = phase-kept s (passed _ _ (s .rec) e) (s .rec .phase) (inside _ _ (s .rec) e)
 
--- the code of what a step leaves, by the two counts
-and-swap : (a b c d : Bool) → true ≡ b → true ≡ d → every (a ∷ b ∷ c ∷ d ∷ []) ≡ every (a ∷ c ∷ [])
+either-way : (z a b : Bool) → z ≡ a → true ≡ b → z ≡ every (a ∷ b ∷ [])
 unfolding every
-and-swap a true true true h k = refl
-and-swap a true false true h k = refl
-and-swap a true true false h k = absurd (true≢false k)
-and-swap a true false false h k = absurd (true≢false k)
-and-swap a false c d h k = absurd (true≢false h)
+either-way z true true h k = h
+either-way z true false h k = absurd (true≢false k)
+either-way z false b h k = h
 
+-- the code of what a step leaves, by the two counts
 module _ (s : State) (e : 0 ≡ check s) (o : Outcome) (k : Kept s o) where
   abbrev y : Record
   y = o .state .rec
+
+  abbrev B : ℕ
+  B = bound (count s) (s .rec .m) (s .rec .r)
 
   sizes-kept : true ≡ sizeOk (y .m) (y .r) (map length (s .edges)) (length (o .state .colour))
   sizes-kept = rw (k .rec .m, k .rec .r, k .colours) (passes _ _ (s .rec) e .0)
@@ -209,18 +209,21 @@ module _ (s : State) (e : 0 ≡ check s) (o : Outcome) (k : Kept s o) where
   last-still : true ≡ lastOk (y .m) (y .r) (y .last)
   last-still = rw (k .rec .m, k .rec .r) (k .rec .last)
 
-  counts-fine : countsOk y (bound (count s) (y .m) (y .r)) ≡ fineOk (bound (count s) (s .rec .m) (s .rec .r)) y
-  unfolding countsOk fineOk
-  counts-fine = rw (k .rec .m, k .rec .r) (and-swap _ _ _ _ (k .rec .inuse) (k .rec .took))
+  same-bound : bound (count s) (y .m) (y .r) ≡ B
+  same-bound = rw (k .rec .m, k .rec .r) refl
 
-  record-fine : (z : Bool) → z ≡ fineOk (bound (count s) (s .rec .m) (s .rec .r)) y → z ≡ recordOk (count s) y
-  unfolding recordOk
-  record-fine z h = every-skip _ _ _ phase-still (every-skip _ _ _ owed-kept (every-skip _ _ _ last-still (every-last _ _ (h ∙ sym counts-fine))))
+  told-still : true ≡ toldOk y (bound (count s) (y .m) (y .r))
+  told-still = rw same-bound (tells-ok y B (k .rec .told))
 
-  pub passes-again : true ≡ fineOk (bound (count s) (s .rec .m) (s .rec .r)) y → 0 ≡ check (o .state)
+  record-fine : (z : Bool) → z ≡ cycleOk y B → z ≡ recordOk (count s) y
+  unfolding recordOk countsOk
+  record-fine z h =
+      every-skip _ _ _ phase-still (every-skip _ _ _ owed-kept (every-skip _ _ _ last-still (every-last _ _ (either-way _ _ _ (rw same-bound h) told-still))))
+
+  pub passes-again : true ≡ cycleOk y B → 0 ≡ check (o .state)
   unfolding checkOf
   passes-again h = rw (k .edges) (pick-yes _ _ _ _ sizes-kept (pick-yes _ _ _ _ (record-fine true h) refl))
 
-  pub now-spoilt : false ≡ fineOk (bound (count s) (s .rec .m) (s .rec .r)) y → 2 ≡ check (o .state)
+  pub now-spoilt : false ≡ cycleOk y B → 2 ≡ check (o .state)
   unfolding checkOf
   now-spoilt h = rw (k .edges) (pick-yes _ _ _ _ sizes-kept (pick-no _ _ _ _ (record-fine false h) refl))

@@ -6,13 +6,13 @@ use Rattle.base.proofs.Tests.{pick-yes, eq-yes, lt-yes, le-yes, every-skip, eve
 use Rattle.rules.specs.declared.Record.{Record}
 use Rattle.rules.specs.declared.Answer.{Answer}
 use Rattle.rules.specs.Table.{State, Outcome}
-use Rattle.rules.specs.Check.{sizeOk, bound}
+use Rattle.rules.specs.Check.{sizeOk, bound, cycleOk}
 use Rattle.rules.specs.Collector.{phaseStep, collect}
 use Rattle.rules.specs.Steps.{step, collecting, codeOf}
 use Rattle.rules.proofs.Good.{passes}
 use Rattle.rules.proofs.Sizes.{square}
 use Rattle.rules.proofs.Laws.{step-collecting, unless-done}
-use Rattle.strides.specs.Leads.{more, Passes, Room, Leads, fineOk}
+use Rattle.strides.specs.Leads.{more, Passes, Room, Leads}
 use Rattle.strides.proofs.Steady.{count, Kept, kept, passes-again}
 
 -- no step
@@ -72,7 +72,7 @@ any-answer s n e a b = refl
 -- a step that is done and leaves the two counts within their limits
 pub step-on : (s : State) (o : Outcome) → Passes s → o ≡ phaseStep s (s .rec .phase) → codeOf (o .answer) ≡ 0 → o .state .rec .blackened ≤ s .rec .m
     → o .state .rec .steps < bound (count s) (s .rec .m) (s .rec .r) → Leads s 1 (o .state)
-unfolding fineOk
+unfolding cycleOk
 step-on s o p w z k l =
     let h : Kept s o = rw w (kept s (p .code)) in
     let b : o .state .rec .blackened ≤ o .state .rec .m = rw (h .rec .m) k in

@@ -1,11 +1,10 @@
 -- Many collector steps at once: what the inner functions of a batch promise one another.
 use Prim.Native.Nat.{ℕ, zero, suc, _+_, _≤_, _<_}
 use mathlib.Core.Path.{_≡_}
-use mathlib.Core.Bool.{Bool}
-use mathlib.Core.List.{List, [], _∷_}
+use mathlib.Core.List.{List}
 use lib.ListN.{getD}
-use lib.Dec.{ltb, leb, eqb}
-use Rattle.base.specs.Choice.{pick, every}
+use lib.Dec.{eqb}
+use Rattle.base.specs.Choice.{pick}
 use Rattle.rules.specs.Table.{State}
 use Rattle.rules.specs.Check.{bound, check}
 use Rattle.rules.specs.Steps.{step, collecting, codeOf}
@@ -48,7 +47,3 @@ pub record Fit (m : ℕ) (c : List ℕ) (e : ℕ) : Type 0 where
   pub below : e < m
   pub not-free : e ≡ 1 → ⊥
   pub known : getD c e 0 ≤ 2
-
--- [Order 6] what a step can spoil, b being B
-unfoldable pub fineOk : ℕ → Record → Bool
-fineOk b x = every (leb (x .blackened) (x .m) ∷ ltb (x .steps) b ∷ [])

@@ -1,7 +1,7 @@
 -- [C 2] The record as sixteen 32-bit words, for callers that have no enums.
 use Rattle.base.specs.Choice.{pick, every}
-use Prim.Native.Nat.{ℕ}
-use mathlib.Core.Bool.{Bool}
+use Prim.Native.Nat.{ℕ, zero, suc, _≤_}
+use mathlib.Core.Bool.{Bool, true}
 use mathlib.Core.List.{List, [], _∷_}
 use lib.Dec.{leb, eqb}
 use lib.ListN.{length, getD}
@@ -41,9 +41,13 @@ abbrev pub owedOf : Owed → ℕ
 owedOf Nothing = 0
 owedOf (Node n) = n
 
+-- the words of a record; its phase is told by tag, i and k, its shade by owes and n
+abbrev pub laidOut : Record → ℕ → ℕ → ℕ → ℕ → ℕ → List ℕ
+laidOut x tag i k owes n =
+    x .m ∷ x .r ∷ tag ∷ i ∷ k ∷ owes ∷ n ∷ x .last ∷ x .steps ∷ x .cycles ∷ x .took ∷ x .blackened ∷ x .inuse ∷ 0 ∷ 0 ∷ 0 ∷ []
+
 abbrev pub wordsOf : Record → List ℕ
-wordsOf x =
-    x .m ∷ x .r ∷ tagOf (x .phase) ∷ position (x .phase) ∷ kOf (x .phase) ∷ owesOf (x .owed) ∷ owedOf (x .owed) ∷ x .last ∷ x .steps ∷ x .cycles ∷ x .took ∷ x .blackened ∷ x .inuse ∷ 0 ∷ 0 ∷ 0 ∷ []
+wordsOf x = laidOut x (tagOf (x .phase)) (position (x .phase)) (kOf (x .phase)) (owesOf (x .owed)) (owedOf (x .owed))
 
 unfoldable pub phaseOf : ℕ → ℕ → ℕ → Phase
 phaseOf tag i k =
@@ -56,32 +60,53 @@ phaseOf tag i k =
 unfoldable pub shadeOf : ℕ → ℕ → Owed
 shadeOf owes n = pick (eqb owes 0) Nothing (Node n)
 
+-- the record of words that tell a phase and a shade
+abbrev pub pickedUp : List ℕ → Phase → Owed → Record
+pickedUp w phase owed =
+    record {
+      m = word w 0;
+      r = word w 1;
+      phase = phase;
+      owed = owed;
+      last = word w 7;
+      steps = word w 8;
+      cycles = word w 9;
+      took = word w 10;
+      blackened = word w 11;
+      inuse = word w 12;
+    }
+
 unfoldable pub recordOf : List ℕ → Record
-recordOf w =
-    record { m = word w 0; r = word w 1; phase = phaseOf (word w 2) (word w 3) (word w 4); owed = shadeOf (word w 5) (word w 6); last = word w 7; steps = word w 8; cycles = word w 9; took = word w 10; blackened = word w 11; inuse = word w 12 }
+recordOf w = pickedUp w (phaseOf (word w 2) (word w 3) (word w 4)) (shadeOf (word w 5) (word w 6))
 
--- a number of 16 bits
-abbrev pub small : ℕ → Bool
-small n = leb n 65535
+-- a number of 16 bits, and one of 32
+abbrev small : ℕ
+small = 65535
 
--- the phase is one of six, and k is 0 but in Scan
-unfoldable pub phaseWords : ℕ → ℕ → ℕ → Bool
-phaseWords tag i k = every (leb tag 5 ∷ small i ∷ pick (eqb tag 1) (small k) (eqb k 0) ∷ [])
+abbrev large : ℕ
+large = 4294967295
 
--- a shade is owed or not, and the node is 0 where it is not
-unfoldable pub owedWords : ℕ → ℕ → Bool
-owedWords owes n = every (leb owes 1 ∷ pick (eqb owes 1) (small n) (eqb n 0) ∷ [])
+-- The most that each word may be, in their order; 0 for those that have no use.
+abbrev pub most : List ℕ
+most =
+    small ∷ small ∷ 5 ∷ small ∷ small ∷ 1 ∷ small ∷ small ∷ large ∷ large ∷ large ∷ small ∷ small ∷ 0 ∷ 0 ∷ 0 ∷ []
 
--- the words that have no use are 0
-unfoldable pub unusedWords : ℕ → ℕ → ℕ → Bool
-unusedWords a b c = every (eqb a 0 ∷ eqb b 0 ∷ eqb c 0 ∷ [])
+-- the first n words are at most that
+unfoldable pub within : List ℕ → ℕ → Bool
+within w zero = true
+within w (suc n) = every (within w n ∷ leb (word w n) (word most n) ∷ [])
 
--- M, R, last, blackened and nodes in use are of 16 bits
-unfoldable pub nodeWords : ℕ → ℕ → ℕ → ℕ → ℕ → Bool
-nodeWords m r last blackened inuse = every (small m ∷ small r ∷ small last ∷ small blackened ∷ small inuse ∷ [])
+-- n is 0 but where the flag is 1
+unfoldable pub flagged : ℕ → ℕ → Bool
+flagged flag n = pick (eqb flag 1) true (eqb n 0)
 
--- [C 3] whether words are a record's: sixteen, each number in its width, phase, shade and unused
--- words as above
+-- [C 3] whether words are a record's: sixteen, each in its width, k 0 but in Scan, the node 0 but
+-- where one is owed
 unfoldable pub isRecord : List ℕ → Bool
 isRecord w =
-    every (eqb (length w) 16 ∷ phaseWords (word w 2) (word w 3) (word w 4) ∷ owedWords (word w 5) (word w 6) ∷ unusedWords (word w 13) (word w 14) (word w 15) ∷ nodeWords (word w 0) (word w 1) (word w 7) (word w 11) (word w 12) ∷ [])
+    every (eqb (length w) 16 ∷ within w 16 ∷ flagged (word w 2) (word w 4) ∷ flagged (word w 5) (word w 6) ∷ [])
+
+-- the same as facts: what the first n words are
+abbrev pub Within : List ℕ → ℕ → Type 0
+Within w zero = Unit {0}
+Within w (suc n) = Within w n × (word w n ≤ word most n)

@@ -4,7 +4,7 @@ use rules::Phase;
 use rules::Record;
 ghost use mathlib.Core.Path.{_≡_};
 ghost use mathlib.Core.Bool.{true};
-ghost use Rattle.words.specs.Words.{tagOf, kOf, owesOf, owedOf, wordsOf, phaseWords, owedWords, unusedWords, nodeWords, phaseOf, shadeOf, recordOf, isRecord};
+ghost use Rattle.words.specs.Words.{tagOf, kOf, owesOf, owedOf, laidOut, wordsOf, phaseOf, shadeOf, pickedUp, recordOf, most, within, flagged, isRecord, Within};
 
 fn tag(p: Phase) -> u32
     ensures { λ n. ⌜ n ≡ tagOf p ⌝ }
@@ -50,103 +50,101 @@ fn owed(o: Owed) -> u16
     }
 }
 
-// The record's words.
-pub fn words_of(x: Record) -> [u32; 16]
-    ensures { λ w. ⌜ (w ≡ wordsOf x) × (true ≡ isRecord w) ⌝ }
+fn laid_out(x: Record, tag: u32, i: u16, k: u16, owes: u32, n: u16) -> [u32; 16]
+    ensures { λ w. ⌜ w ≡ laidOut x tag i k owes n ⌝ }
 {
-    let p = x.phase;
-    let o = x.owed;
+    let m = x.m;
+    let r = x.r;
+    let last = x.last;
+    let blackened = x.blackened;
+    let inuse = x.inuse;
     [
-        x.m as u32,
-        x.r as u32,
-        tag(p),
-        rules::position(p) as u32,
-        rest(p) as u32,
-        owes(o),
-        owed(o) as u32,
-        x.last as u32,
+        m as u32,
+        r as u32,
+        tag,
+        i as u32,
+        k as u32,
+        owes,
+        n as u32,
+        last as u32,
         x.steps,
         x.cycles,
         x.took,
-        x.blackened as u32,
-        x.inuse as u32,
+        blackened as u32,
+        inuse as u32,
         0,
         0,
         0,
     ]
 }
 
-fn phase_words(tag: u32, i: u32, k: u32) -> bool
-    ensures { λ ok. ⌜ ok ≡ phaseWords tag i k ⌝ }
+// The record's words.
+pub fn words_of(x: Record) -> [u32; 16]
+    ensures { λ w. ⌜ (w ≡ wordsOf x) × (true ≡ isRecord w) ⌝ }
 {
-    if 5 < tag {
-        return false;
-    }
-    if 65535 < i {
-        return false;
-    }
-    if tag == 1 {
-        return k <= 65535;
-    }
-    k == 0
+    let p = x.phase;
+    let o = x.owed;
+    laid_out(x, tag(p), rules::position(p), rest(p), owes(o), owed(o))
 }
 
-fn owed_words(owes: u32, n: u32) -> bool
-    ensures { λ ok. ⌜ ok ≡ owedWords owes n ⌝ }
+// The most that each word may be: 0 for those that have no use.
+fn most() -> [u32; 16]
+    ensures { λ w. ⌜ w ≡ most ⌝ }
 {
-    if 1 < owes {
-        return false;
+    [
+        65535,
+        65535,
+        5,
+        65535,
+        65535,
+        1,
+        65535,
+        65535,
+        4294967295,
+        4294967295,
+        4294967295,
+        65535,
+        65535,
+        0,
+        0,
+        0,
+    ]
+}
+
+fn within(w: [u32; 16]) -> bool
+    ensures { λ ok. ⌜ ok ≡ within w 16 ⌝ }
+{
+    let top = most();
+    let mut n = 0;
+    while n < 16 {
+        if top[n] < w[n] {
+            return false;
+        }
+        n += 1;
     }
-    if owes == 1 {
-        return n <= 65535;
+    true
+}
+
+fn flagged(flag: u32, n: u32) -> bool
+    ensures { λ ok. ⌜ ok ≡ flagged flag n ⌝ }
+{
+    if flag == 1 {
+        return true;
     }
     n == 0
-}
-
-fn unused_words(a: u32, b: u32, c: u32) -> bool
-    ensures { λ ok. ⌜ ok ≡ unusedWords a b c ⌝ }
-{
-    if a != 0 {
-        return false;
-    }
-    if b != 0 {
-        return false;
-    }
-    c == 0
-}
-
-fn node_words(m: u32, r: u32, last: u32, blackened: u32, inuse: u32) -> bool
-    ensures { λ ok. ⌜ ok ≡ nodeWords m r last blackened inuse ⌝ }
-{
-    if 65535 < m {
-        return false;
-    }
-    if 65535 < r {
-        return false;
-    }
-    if 65535 < last {
-        return false;
-    }
-    if 65535 < blackened {
-        return false;
-    }
-    inuse <= 65535
 }
 
 // Whether words are a record's.
 pub fn is_record(w: [u32; 16]) -> bool
     ensures { λ ok. ⌜ ok ≡ isRecord w ⌝ }
 {
-    if !phase_words(w[2], w[3], w[4]) {
+    if !within(w) {
         return false;
     }
-    if !owed_words(w[5], w[6]) {
+    if !flagged(w[2], w[4]) {
         return false;
     }
-    if !unused_words(w[13], w[14], w[15]) {
-        return false;
-    }
-    node_words(w[0], w[1], w[7], w[11], w[12])
+    flagged(w[5], w[6])
 }
 
 fn phase_of(tag: u32, i: u16, k: u16) -> Phase
@@ -179,16 +177,15 @@ fn shade_of(owes: u32, n: u16) -> Owed
     Owed::Node(n)
 }
 
-// The record that words are.
-pub fn record_of(w: [u32; 16]) -> Record
-    requires { ⌜ true ≡ isRecord w ⌝ }
-    ensures { λ x. ⌜ x ≡ recordOf w ⌝ }
+fn picked_up(w: [u32; 16], phase: Phase, owed: Owed) -> Record
+    requires { ⌜ Within w 16 ⌝ }
+    ensures { λ x. ⌜ x ≡ pickedUp w phase owed ⌝ }
 {
     Record {
         m: w[0] as u16,
         r: w[1] as u16,
-        phase: phase_of(w[2], w[3] as u16, w[4] as u16),
-        owed: shade_of(w[5], w[6] as u16),
+        phase,
+        owed,
         last: w[7] as u16,
         steps: w[8],
         cycles: w[9],
@@ -196,4 +193,14 @@ pub fn record_of(w: [u32; 16]) -> Record
         blackened: w[11] as u16,
         inuse: w[12] as u16,
     }
+}
+
+// The record that words are.
+pub fn record_of(w: [u32; 16]) -> Record
+    requires { ⌜ true ≡ isRecord w ⌝ }
+    ensures { λ x. ⌜ x ≡ recordOf w ⌝ }
+{
+    let phase = phase_of(w[2], w[3] as u16, w[4] as u16);
+    let owed = shade_of(w[5], w[6] as u16);
+    picked_up(w, phase, owed)
 }

@@ -51,8 +51,8 @@ returns c = stopped _ _ _ _ _ (c .before .before .before .before .before .before
 add-done-2 : tie.Need-add-done-2 Inv-loop μ-loop
 add-done-2 c = omega arith
 
-fine-requires : tie.Need-fine-requires Inv-loop μ-loop
-fine-requires c κs = omega arith
+cycle-ok-requires : tie.Need-cycle-ok-requires Inv-loop μ-loop
+cycle-ok-requires c κs = omega arith
 
 ended-requires : tie.Need-ended-requires Inv-loop μ-loop
 ended-requires c κs = omega arith
@@ -67,13 +67,13 @@ same-length-6 : tie.Need-same-length-6 Inv-loop μ-loop
 same-length-6 c = omega arith
 
 returns-2 : tie.Need-returns-2 Inv-loop μ-loop
-returns-2 c = spoilt-end _ _ _ _ _ (c .before .before .before .before .before .before .before .before .before .before .before .before .before .turn .ensures .1) (not-yes _ (c .before .if2 .taken) ∙ c .before .before .fine .ensures) (sym (c .before .before .before .before .code .ensures) ∙ c .before .before .before .if1 .left) _ _ _ _ (omega arith) (c .ended .ensures .0) (c .ended .ensures .1) ∙ sym (c .before .before .before .before .before .before .before .before .before .before .before .before .before .before .before .before .before .before .loop .inv .6)
+returns-2 c = spoilt-end _ _ _ _ _ (c .before .before .before .before .before .before .before .before .before .before .before .before .before .turn .ensures .1) (not-yes _ (c .before .if2 .taken) ∙ c .before .before .cycle-ok .ensures) (sym (c .before .before .before .before .code .ensures) ∙ c .before .before .before .if1 .left) _ _ _ _ (omega arith) (c .ended .ensures .0) (c .ended .ensures .1) ∙ sym (c .before .before .before .before .before .before .before .before .before .before .before .before .before .before .before .before .before .before .loop .inv .6)
 
 loop-less : tie.Need-loop-less Inv-loop μ-loop
 loop-less c = omega arith
 
 loop-again : tie.Need-loop-again Inv-loop μ-loop
-loop-again c = (omega arith, omega arith, omega arith, omega arith, c .before .before .before .before .before .before .before .before .before .before .before .before .turn .ensures .1 .passes (not-no _ (c .if2 .left) ∙ c .before .fine .ensures), rw (c .before .before .before .before .before .before .before .before .before .before .before .before .turn .ensures .1 .m, c .before .before .before .before .before .before .before .before .before .before .before .before .turn .ensures .1 .r) (c .before .before .before .before .before .before .before .before .before .before .before .before .before .before .before .before .before .loop .inv .5), c .before .before .before .before .before .before .before .before .before .before .before .before .before .before .before .before .before .loop .inv .6 ∙ gone-on _ _ _ _ _ (c .before .before .before .before .before .before .before .before .before .before .before .before .turn .ensures .1) _ _ _ _ (omega arith) (sym (c .before .before .before .code .ensures) ∙ c .before .before .if1 .left))
+loop-again c = (omega arith, omega arith, omega arith, omega arith, c .before .before .before .before .before .before .before .before .before .before .before .before .turn .ensures .1 .passes (not-no _ (c .if2 .left) ∙ c .before .cycle-ok .ensures), rw (c .before .before .before .before .before .before .before .before .before .before .before .before .turn .ensures .1 .m, c .before .before .before .before .before .before .before .before .before .before .before .before .turn .ensures .1 .r) (c .before .before .before .before .before .before .before .before .before .before .before .before .before .before .before .before .before .loop .inv .5), c .before .before .before .before .before .before .before .before .before .before .before .before .before .before .before .before .before .loop .inv .6 ∙ gone-on _ _ _ _ _ (c .before .before .before .before .before .before .before .before .before .before .before .before .turn .ensures .1) _ _ _ _ (omega arith) (sym (c .before .before .before .code .ensures) ∙ c .before .before .if1 .left))
 
 same-length-7 : tie.Need-same-length-7 Inv-loop μ-loop
 same-length-7 c = omega arith
@@ -104,7 +104,7 @@ turns-spec =
     same-length-3
     returns
     add-done-2
-    fine-requires
+    cycle-ok-requires
     ended-requires
     same-length-4
     same-length-5

@@ -10,8 +10,8 @@ use Rattle.fresh.proofs.fresh.Tie as tie
 size-ok-requires : tie.Need-size-ok-requires
 size-ok-requires c κs = search needs
 
-no-table-requires : tie.Need-no-table-requires
-no-table-requires c κs = search needs
+fresh-requires : tie.Need-fresh-requires
+fresh-requires c κs = search needs
 
 returns : tie.Need-returns
 unfolding fresh
@@ -33,8 +33,8 @@ last-of-requires : tie.Need-last-of-requires
 unfolding sizeOk
 last-of-requires c κs = omega (facts, each _ (not-no _ (c .before .before .before .before .before .before .before .before .before .before .if1 .left) ∙ c .before .before .before .before .before .before .before .before .before .before .before .size-ok .ensures))
 
-record-of-requires : tie.Need-record-of-requires
-record-of-requires c κs = search needs
+fresh-requires-2 : tie.Need-fresh-requires-2
+fresh-requires-2 c κs = search needs
 
 same-length : tie.Need-same-length
 same-length c = search needs
@@ -54,13 +54,13 @@ fresh-spec =
     tie.close
     (tie.spec
     size-ok-requires
-    no-table-requires
+    fresh-requires
     returns
     cast-nodes
     cast-slots
     fill-requires
     last-of-requires
-    record-of-requires
+    fresh-requires-2
     same-length
     same-length-2
     same-length-3

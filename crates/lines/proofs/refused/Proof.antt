@@ -3,11 +3,11 @@ use borrow.Author.Needs.{needs}
 use Rattle.lines.proofs.refused.Statement.{statement}
 use Rattle.lines.proofs.refused.Tie as tie
 
-no-table-requires : tie.Need-no-table-requires
-no-table-requires c κs = search needs
+fresh-requires : tie.Need-fresh-requires
+fresh-requires c κs = search needs
 
 returns : tie.Need-returns
 returns c = cc
 
 pub refused-spec : {M : Type 1} → statement M
-refused-spec = tie.close (tie.spec no-table-requires returns)
+refused-spec = tie.close (tie.spec fresh-requires returns)
