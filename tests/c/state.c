@@ -1,14 +1,15 @@
-/* Reads lines as the second program's modes take them (tests/second/model/main.rs), makes the calls through the library and writes what that mode
- * writes, so that the two can be compared:
+/* Reads lines as the second program's modes take them (tests/second/model/main.rs), makes the calls
+ * through the library and writes what that mode writes, so that the two can be compared:
  *
- *     state --state     the step by its own call; then from the same state as a schedule of one step, and a collector step by
- *                       jenturik_collect_many too, which must do and tell the same. A kind above 4 has no call of its own, only the schedule
- *     state --run       jenturik_schedule
- *     state --many      the lines of --run; each span of collector steps by jenturik_collect_many, the others by jenturik_schedule, one by one
- *     state --fresh     jenturik_fresh
+ *     state --state     the step by its own call; then from the same state as a schedule of one
+ * step, and a collector step by jenturik_collect_many too, which must do and tell the same. A kind
+ * above 4 has no call of its own, only the schedule state --run       jenturik_schedule state
+ * --many      the lines of --run; each span of collector steps by jenturik_collect_many, the others
+ * by jenturik_schedule, one by one state --fresh     jenturik_fresh
  *
- * Lines have numbers of 64 bits, the library's have 32: a larger one becomes the largest. Both refuse either where they read it; a record's number
- * that does not fit its words would show as a difference. */
+ * Lines have numbers of 64 bits, the library's have 32: a larger one becomes the largest. Both
+ * refuse either where they read it; a record's number that does not fit its words would show as a
+ * difference. */
 #define _DEFAULT_SOURCE
 #include "table.h"
 
@@ -82,14 +83,18 @@ static jenturik_done follow(const uint32_t *from, size_t count) {
     size_t bytes = 32 * count;
     const uint32_t *lent_steps = fence_lay(&order, from, bytes, high);
     jenturik_done d = jenturik_schedule(LENT(&t), lent_steps, 8 * count);
-    if (!fence_kept(&order) || (bytes != 0 && memcmp(lent_steps, from, bytes) != 0)) fence_fail("the steps were written");
+    if (!fence_kept(&order) || (bytes != 0 && memcmp(lent_steps, from, bytes) != 0))
+        fence_fail("the steps were written");
     return d;
 }
 
-/* What was done as the mode tells it: the collector's steps from 1 on, 0 for the editor's and for a refusal. */
+/* What was done as the mode tells it: the collector's steps from 1 on, 0 for the editor's and for a
+ * refusal. */
 static uint32_t did(uint32_t kind, jenturik_told a) {
-    static const uint32_t whats[] = {JENTURIK_TAKEN, JENTURIK_LINKED, JENTURIK_SHADED, 0, JENTURIK_NAMED};
-    if ((a.what == JENTURIK_REFUSED) != (a.code != JENTURIK_DONE)) fence_fail("what was done and the code contradict each other");
+    static const uint32_t whats[] = {JENTURIK_TAKEN, JENTURIK_LINKED, JENTURIK_SHADED, 0,
+                                     JENTURIK_NAMED};
+    if ((a.what == JENTURIK_REFUSED) != (a.code != JENTURIK_DONE))
+        fence_fail("what was done and the code contradict each other");
     if (a.what == JENTURIK_REFUSED) return 0;
     if (kind == 3) return a.what - JENTURIK_SHADED + 1;
     if (a.what != whats[kind]) fence_fail("a call tells that it did what another does");
@@ -100,7 +105,8 @@ static void by_many(jenturik_told told) {
     lend(&t, &given, high);
     jenturik_last a = jenturik_collect_many(LENT(&t), 1);
     take_back(&t, &again);
-    if (a.what != told.what || a.code != told.code || a.node != told.node || a.done != (told.code == 0))
+    if (a.what != told.what || a.code != told.code || a.node != told.node ||
+        a.done != (told.code == 0))
         fence_fail("collect_many tells another answer");
     if (!same(&after, &again)) fence_fail("collect_many leaves another state");
 }
@@ -118,7 +124,8 @@ static void state_line(void) {
         take_back(&t, &again);
         if (!same(&after, &again)) fence_fail("the call and the schedule leave different states");
     }
-    if (told.code != d.code || d.done != (d.code == 0)) fence_fail("the call and the schedule tell different codes");
+    if (told.code != d.code || d.done != (d.code == 0))
+        fence_fail("the call and the schedule tell different codes");
     if (steps[0] == 3) by_many(told);
     put(told.code);
     put(told.node);
@@ -179,7 +186,8 @@ static void fresh_line(void) {
     jenturik_told a = jenturik_fresh(LENT(&t), nodes, slots);
     take_back(&t, &after);
     uint32_t what = a.code == 0 ? JENTURIK_STARTED : JENTURIK_REFUSED;
-    if (a.what != what || a.node != after.words[JENTURIK_LAST]) fence_fail("fresh tells something else than the last free node");
+    if (a.what != what || a.node != after.words[JENTURIK_LAST])
+        fence_fail("fresh tells something else than the last free node");
     put(a.code);
     put_state(&after);
 }

@@ -22,21 +22,26 @@ use Rattle.strides.proofs.Steady.{count, Kept, kept, steps-below, passes-again,
 use Rattle.strides.proofs.Strides.{step-is, done-on}
 use Rattle.batch.specs.Turns.{Turn}
 
-pub ready : (l k c : List ℕ) (y : Record) → Passes (state l k c y) → (Good (length l) (length k) (length c) y) × (Inside (y .m) (y .r) (y .phase))
+pub ready : (l k c : List ℕ) (y : Record) → Passes (state l k c y)
+    → (Good (length l) (length k) (length c) y) × (Inside (y .m) (y .r) (y .phase))
 ready l k c y p = (good _ _ _ y (p .code), inside _ _ y (p .code))
 
-pub steps-in : (l k c : List ℕ) (x : Record) (b : ℕ) → Passes (state l k c x) → b ≡ bound 2 (x .m) (x .r) → x .steps < b
+pub steps-in : (l k c : List ℕ) (x : Record) (b : ℕ) → Passes (state l k c x) → b
+    ≡ bound 2 (x .m) (x .r) → x .steps < b
 steps-in l k c x b p q = rw q (steps-below _ _ x (p .code))
 
 pub room : (x : Record) (b cap : ℕ) → b ≡ bound 2 (x .m) (x .r) → x .steps + cap < b → Room x cap
 room x b cap q h = record { steps = rw (← q) h }
 
 -- a step that is refused ends the run, and changes nothing
-refused-at : (s : State) (o : Outcome) (n e : ℕ) (a : Answer) → o ≡ step collecting s → (codeOf (o .answer) ≡ 0 → ⊥) → more (suc n) e a s ≡ lasted e (o .answer) s
+refused-at : (s : State) (o : Outcome) (n e : ℕ) (a : Answer) → o ≡ step collecting s
+    → (codeOf (o .answer) ≡ 0 → ⊥) → more (suc n) e a s ≡ lasted e (o .answer) s
 unfolding more
 refused-at s o n e a w z = rw (← w) (sym (pick-no _ _ _ _ (eq-no _ _ z) refl))
 
-pub turned : (b : ℕ) (s t : State) (d : ℕ) (o : Outcome) → b ≡ bound (count s) (s .rec .m) (s .rec .r) → Leads s d t → count t ≡ count s → o ≡ phaseStep t (t .rec .phase)
+pub turned : (b : ℕ) (s t : State) (d : ℕ) (o : Outcome) → b
+    ≡ bound (count s) (s .rec .m) (s .rec .r) → Leads s d t → count t ≡ count s → o
+    ≡ phaseStep t (t .rec .phase)
     → Turn b s d (o .answer) (o .state)
 turned b s t d o q p j w =
     let k : Kept t o = rw w (kept t (p .passes .code)) in
@@ -46,7 +51,9 @@ turned b s t d o q p j w =
       m = k .rec .m ∙ p .m;
       r = k .rec .r ∙ p .r;
       goes = λ f n e a. p .same n e a ∙ done-on t o n (e + d) a v f;
-      stops = λ f n e a. p .same n e a ∙ refused-at t o n (e + d) a v f ∙ ap (lasted (e + d) (o .answer)) (sym (rw (← v) at (refused-stays t collecting) f));
+      stops =
+          λ f n e a. p .same n e a ∙ refused-at t o n (e + d) a v f
+          ∙ ap (lasted (e + d) (o .answer)) (sym (rw (← v) at (refused-stays t collecting) f));
       passes = λ f. record { code = passes-again t (p .passes .code) o k (rw (← u) f) };
       spoilt = λ f. now-spoilt t (p .passes .code) o k (rw (← u) f);
     }
@@ -62,20 +69,27 @@ unfolding collect
 bad-step c s e f = rw step-collecting (unless-refused _ _ _ _ e f)
 
 -- n more steps from a record with a count past its limit
-spoilt-run : (s : State) → 2 ≡ check s → (n e : ℕ) (a r : Answer) → (0 < n → r ≡ Refused 2 0) → (n ≤ 0 → r ≡ a) → lasted e r s ≡ more n e a s
+spoilt-run : (s : State) → 2 ≡ check s → (n e : ℕ) (a r : Answer) → (0 < n → r ≡ Refused 2 0)
+    → (n ≤ 0 → r ≡ a) → lasted e r s ≡ more n e a s
 unfolding more
 spoilt-run s h zero e a r f g = rw (g (omega arith))
-spoilt-run s h (suc n) e a r f g = rw (f (omega arith)) (sym (refused-at s (refuse s 2 0) n e a (bad-step 2 s h (λ z. omega arith)) (λ z. omega arith)))
+spoilt-run s h (suc n) e a r f g = rw (f (omega arith))
+    (sym (refused-at s (refuse s 2 0) n e a (bad-step 2 s h (λ z. omega arith)) (λ z. omega arith)))
 
 module _ (b : ℕ) (s : State) (d : ℕ) (a : Answer) (t : State) (p : Turn b s d a t) where
-  pub stopped : (n e : ℕ) (a₀ : Answer) → d < n → (codeOf a ≡ 0 → ⊥) → lasted (e + d) a t ≡ more n e a₀ s
-  stopped n e a₀ h f = let z : n ≡ d + suc (n - d - 1) = omega arith in rw z (sym (p .stops f (n - d - 1) e a₀))
+  pub stopped : (n e : ℕ) (a₀ : Answer) → d < n → (codeOf a ≡ 0 → ⊥) → lasted (e + d) a t
+      ≡ more n e a₀ s
+  stopped n e a₀ h f =
+      let z : n ≡ d + suc (n - d - 1) = omega arith in rw z (sym (p .stops f (n - d - 1) e a₀))
 
-  pub gone-on : (n e k : ℕ) (a₀ : Answer) → n ≡ d + suc k → codeOf a ≡ 0 → more n e a₀ s ≡ more k (e + d + 1) a t
+  pub gone-on : (n e k : ℕ) (a₀ : Answer) → n ≡ d + suc k → codeOf a ≡ 0 → more n e a₀ s
+      ≡ more k (e + d + 1) a t
   gone-on n e k a₀ h f = rw h (p .goes f k e a₀)
 
-  pub spoilt-end : false ≡ cycleOk (t .rec) b → codeOf a ≡ 0 → (n e : ℕ) (a₀ r : Answer) → d < n - e → (e + d + 1 < n → r ≡ Refused 2 0)
+  pub spoilt-end : false ≡ cycleOk (t .rec) b → codeOf a ≡ 0 → (n e : ℕ) (a₀ r : Answer) → d < n - e
+      → (e + d + 1 < n → r ≡ Refused 2 0)
       → (n ≤ e + d + 1 → r ≡ a) → lasted (e + d + 1) r t ≡ more (n - e) e a₀ s
   spoilt-end h f n e a₀ r l v w =
-      spoilt-run t (p .spoilt h) (n - (e + d + 1)) (e + d + 1) a r (λ q. v (omega arith)) (λ q. w (omega arith))
+      spoilt-run t (p .spoilt h) (n - (e + d + 1)) (e + d + 1) a r (λ q. v (omega arith))
+      (λ q. w (omega arith))
       ∙ sym (gone-on (n - e) e (n - (e + d + 1)) a₀ (omega arith) f)

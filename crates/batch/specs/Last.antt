@@ -19,7 +19,9 @@ many d l r c = followed (d .done) (codeOf (d .answer)) (state l r c (d .rec))
 unfoldable pub answering : ℕ → Answer → State → Answer
 answering zero a s = a
 answering (suc n) a s =
-    pick (eqb (codeOf (step collecting s .answer)) 0) (answering n (step collecting s .answer) (step collecting s .state)) (step collecting s .answer)
+    pick (eqb (codeOf (step collecting s .answer)) 0)
+    (answering n (step collecting s .answer) (step collecting s .state))
+    (step collecting s .answer)
 
 -- [Many 3] codes 1 and 2 first; for no steps the answer is `Named 0`
 unfoldable pub lastAnswer : ℕ → State → Answer

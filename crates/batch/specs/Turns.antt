@@ -12,7 +12,9 @@ use Rattle.strides.specs.Leads.{lasted, more, Passes}
 pub record Turn (b : ℕ) (s : State) (d : ℕ) (a : Answer) (t : State) : Type 0 where
   pub m : t .rec .m ≡ s .rec .m
   pub r : t .rec .r ≡ s .rec .r
-  pub goes : codeOf a ≡ 0 → (n e : ℕ) (a₀ : Answer) → more (d + suc n) e a₀ s ≡ more n (e + d + 1) a t
-  pub stops : (codeOf a ≡ 0 → ⊥) → (n e : ℕ) (a₀ : Answer) → more (d + suc n) e a₀ s ≡ lasted (e + d) a t
+  pub goes : codeOf a ≡ 0 → (n e : ℕ) (a₀ : Answer) → more (d + suc n) e a₀ s
+      ≡ more n (e + d + 1) a t
+  pub stops : (codeOf a ≡ 0 → ⊥) → (n e : ℕ) (a₀ : Answer) → more (d + suc n) e a₀ s
+      ≡ lasted (e + d) a t
   pub passes : true ≡ cycleOk (t .rec) b → Passes t
   pub spoilt : false ≡ cycleOk (t .rec) b → 2 ≡ check t

@@ -10,7 +10,7 @@ use Rattle.base.specs.Choice.{pick}
 use Rattle.base.proofs.Tests.{pick-yes, pick-no, code-yes, code-no}
 use Rattle.rules.specs.Table.{State, Outcome, state}
 use Rattle.rules.specs.Steps.{step, collecting, codeOf}
-use Rattle.rules.specs.Schedules.{Followed, followed, ran, follow, collects}
+use Rattle.rules.specs.Schedules.{followed, ran, follow, collects}
 use Rattle.rules.specs.declared.Record.{Record}
 use Rattle.rules.specs.declared.Ran.{Ran}
 use Rattle.rules.proofs.Refused.{refused-stays}
@@ -20,7 +20,8 @@ use Rattle.bench_steps.specs.Steps.{stepped, steps}
 -- k of n steps were done and led to s
 module _ (n k : ℕ) (s : State) where
   -- the next one is made as o and answers code
-  module _ (o : Outcome) (code : ℕ) (e : o ≡ step collecting s) (lt : k < n) (q : code ≡ codeOf (o .answer)) where
+  module _ (o : Outcome) (code : ℕ) (e : o ≡ step collecting s) (lt : k < n)
+      (q : code ≡ codeOf (o .answer)) where
     turn : follow (collects (n - k)) k s
         ≡ pick (eqb (codeOf (o .answer)) 0) (follow (collects (n - (k + 1))) (k + 1) (o .state))
         (followed k (codeOf (o .answer)) s)

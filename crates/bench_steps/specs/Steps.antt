@@ -18,7 +18,13 @@ stepped n l r c w = record { done = n; edges = l ∷ r ∷ []; colour = c; words
 
 abbrev pub told : Followed → Stepped
 told f =
-    record { done = f .done; edges = f .state .edges; colour = f .state .colour; words = wordsOf (f .state .rec) }
+    record {
+      done =
+          f .done;
+      edges = f .state .edges;
+      colour = f .state .colour;
+      words = wordsOf (f .state .rec);
+    }
 
 -- n steps until one is refused, where the words are a record's; else none
 unfoldable pub steps : ℕ → List ℕ → List ℕ → List ℕ → List ℕ → Stepped

@@ -1,14 +1,17 @@
-// For measuring only: single steps for C. Alone in its module, so that LLVM makes one function of it.
+// For measuring only: single steps for C. Alone in its module, so that LLVM makes one function of
+// it.
 use rules::Ran;
 use rules::Record;
 ghost use mathlib.Core.Path.{_≡_};
-ghost use Rattle.rules.specs.Table.{state};
 ghost use Rattle.rules.specs.Schedules.{ran, follow, collects};
 ghost use Rattle.bench_steps.specs.Steps.{stepped, steps};
+ghost use Rattle.base.specs.Lent.{was, is};
+ghost use Rattle.rules.specs.Lent.{given};
 
 // n single steps, one call of `collect` each, until one is refused.
 fn one_by_one(left: &mut [u16], right: &mut [u16], colour: &mut [u8], x: Record, n: usize) -> Ran
-    ensures { λ r. ⌜ ran r (now (left .exit)) (now (right .exit)) (now (colour .exit)) ≡ follow (collects n) 0 (state (now (left .entry)) (now (right .entry)) (now (colour .entry)) x) ⌝ }
+    ensures { λ r. ⌜ ran r (is left) (is right) (is colour)
+        ≡ follow (collects n) 0 (given left right colour x) ⌝ }
 {
     let mut rec = x;
     let mut done = 0;
@@ -34,7 +37,8 @@ pub extern "C" fn jenturik_steps(
     words: &mut [u32; 16],
     n: usize,
 ) -> usize
-    ensures { λ d. ⌜ stepped d (now (left .exit)) (now (right .exit)) (now (colour .exit)) (now (words .exit)) ≡ steps n (now (left .entry)) (now (right .entry)) (now (colour .entry)) (now (words .entry)) ⌝ }
+    ensures { λ d. ⌜ stepped d (is left) (is right) (is colour) (is words)
+        ≡ steps n (was left) (was right) (was colour) (was words) ⌝ }
 {
     let w = *words;
     if !words::is_record(w) {

@@ -5,9 +5,9 @@ use rules::Place;
 use rules::Record;
 use rules::Step;
 ghost use mathlib.Core.Path.{_≡_};
-ghost use Rattle.rules.specs.Table.{state, outcome};
 ghost use Rattle.rules.specs.Steps.{step, source, target};
 ghost use Rattle.calls.specs.Unreadable.{unreadable};
+ghost use Rattle.rules.specs.Lent.{given, leaves};
 
 fn source(a: Step) -> Place
     ensures { λ p. ⌜ p ≡ source a ⌝ }
@@ -42,7 +42,7 @@ pub fn unreadable(lefts: usize, rights: usize, colours: usize, x: Record) -> u8
 
 // One step: 0 take, 1 link, 2 shade, 3 collect, 4 look.
 pub fn step(left: &mut [u16], right: &mut [u16], colour: &mut [u8], x: Record, a: Step) -> Made
-    ensures { λ r. ⌜ outcome r (now (left .exit)) (now (right .exit)) (now (colour .exit)) ≡ step a (state (now (left .entry)) (now (right .entry)) (now (colour .entry)) x) ⌝ }
+    ensures { λ r. ⌜ leaves r left right colour ≡ step a (given left right colour x) ⌝ }
 {
     let kind = a.kind;
     if kind == 0 {

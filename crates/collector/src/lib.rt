@@ -8,14 +8,19 @@ ghost use mathlib.Core.List.{List};
 ghost use Prim.Native.Nat.{ℕ, _<_, _≤_};
 ghost use lib.ListN.{length};
 ghost use Rattle.rules.specs.Table.{table, state, handed, outcome};
-ghost use Rattle.rules.specs.Collector.{shadeStep, afterRoots, scanStep, edgeStep, blackStep, appendWhite, appendStep, phaseStep};
+ghost use Rattle.rules.specs.Collector.{shadeStep, afterRoots, scanStep, edgeStep, blackStep};
+ghost use Rattle.rules.specs.Collector.{appendWhite, appendStep, phaseStep};
 ghost use Rattle.rules.specs.Steps.{step, collecting};
 ghost use Rattle.rules.specs.Facts.{Good, Inside};
+ghost use Rattle.base.specs.Lent.{was, is};
+ghost use Rattle.rules.specs.Lent.{given, leaves};
 
 // Shades node n, and goes on to a phase.
 fn shade_step(colour: &mut [u8], x: Record, n: u16, then: Phase) -> Made
-    requires { ⌜ (n < length (now colour)) × (x .steps < 20000000) ⌝ }
-    ensures { λ r. ⌜ ((es : List (List ℕ)) → handed r es (now (colour .exit)) ≡ shadeStep (table es (now (colour .entry)) x) n then) ⌝ }
+    requires { ⌜ n < length (now colour) ⌝ }
+    requires { ⌜ x .steps < 20000000 ⌝ }
+    ensures { λ r. ⌜ ((es : List (List ℕ)) → handed r es (is colour)
+        ≡ shadeStep (table es (was colour) x) n then) ⌝ }
 {
     let at = n as usize;
     if 2 < colour[at] {
@@ -33,7 +38,8 @@ fn shade_step(colour: &mut [u8], x: Record, n: u16, then: Phase) -> Made
 
 // The phase after Roots i.
 fn after_roots(m: u16, r: u16, i: u16) -> Phase
-    requires { ⌜ (r ≤ 64) × (i ≤ 65) ⌝ }
+    requires { ⌜ r ≤ 64 ⌝ }
+    requires { ⌜ i ≤ 65 ⌝ }
     ensures { λ p. ⌜ p ≡ afterRoots m r i ⌝ }
 {
     if i == r + 1 {
@@ -44,8 +50,13 @@ fn after_roots(m: u16, r: u16, i: u16) -> Phase
 
 // Scan i, k: Left i where node i is gray, else on to the next node.
 fn scan_step(colour: &[u8], x: Record, i: u16, k: u16) -> Made
-    requires { ⌜ (i < length (now colour)) × ((i < 4096) × ((x .steps < 20000000) × ((0 < x .m) × (0 < k)))) ⌝ }
-    ensures { λ r. ⌜ ((es : List (List ℕ)) → handed r es (now (colour .entry)) ≡ scanStep (table es (now (colour .entry)) x) i k) ⌝ }
+    requires { ⌜ i < length (now colour) ⌝ }
+    requires { ⌜ i < 4096 ⌝ }
+    requires { ⌜ x .steps < 20000000 ⌝ }
+    requires { ⌜ 0 < x .m ⌝ }
+    requires { ⌜ 0 < k ⌝ }
+    ensures { λ r. ⌜ ((es : List (List ℕ)) → handed r es (was colour)
+        ≡ scanStep (table es (was colour) x) i k) ⌝ }
 {
     let at = i as usize;
     if 2 < colour[at] {
@@ -74,8 +85,10 @@ fn scan_step(colour: &[u8], x: Record, i: u16, k: u16) -> Made
 
 // Left i or Right i: shades e, that edge of node i, and goes on to a phase.
 fn edge_step(colour: &mut [u8], x: Record, i: u16, e: u16, then: Phase) -> Made
-    requires { ⌜ (x .m ≤ length (now colour)) × (x .steps < 20000000) ⌝ }
-    ensures { λ r. ⌜ ((es : List (List ℕ)) → handed r es (now (colour .exit)) ≡ edgeStep (table es (now (colour .entry)) x) i e then) ⌝ }
+    requires { ⌜ x .m ≤ length (now colour) ⌝ }
+    requires { ⌜ x .steps < 20000000 ⌝ }
+    ensures { λ r. ⌜ ((es : List (List ℕ)) → handed r es (is colour)
+        ≡ edgeStep (table es (was colour) x) i e then) ⌝ }
 {
     if table::bad_edge(x.m, e) {
         return Made {
@@ -88,8 +101,13 @@ fn edge_step(colour: &mut [u8], x: Record, i: u16, e: u16, then: Phase) -> Made
 
 // Black i: node i is black, and the scan begins again behind it.
 fn black_step(colour: &mut [u8], x: Record, i: u16) -> Made
-    requires { ⌜ (i < length (now colour)) × ((i < 4096) × ((x .steps < 20000000) × ((0 < x .m) × (x .blackened ≤ 4096)))) ⌝ }
-    ensures { λ r. ⌜ ((es : List (List ℕ)) → handed r es (now (colour .exit)) ≡ blackStep (table es (now (colour .entry)) x) i) ⌝ }
+    requires { ⌜ i < length (now colour) ⌝ }
+    requires { ⌜ i < 4096 ⌝ }
+    requires { ⌜ x .steps < 20000000 ⌝ }
+    requires { ⌜ 0 < x .m ⌝ }
+    requires { ⌜ x .blackened ≤ 4096 ⌝ }
+    ensures { λ r. ⌜ ((es : List (List ℕ)) → handed r es (is colour)
+        ≡ blackStep (table es (was colour) x) i) ⌝ }
 {
     let at = i as usize;
     colour[at] = 2;
@@ -101,8 +119,14 @@ fn black_step(colour: &mut [u8], x: Record, i: u16) -> Made
 
 // A white node i goes to the end of the free list.
 fn append_white(left: &mut [u16], right: &mut [u16], x: Record, i: u16) -> Made
-    requires { ⌜ (i < length (now left)) × ((i < length (now right)) × ((x .last < length (now left)) × ((x .steps < 20000000) × ((i < 4096) × (x .r ≤ 64))))) ⌝ }
-    ensures { λ r. ⌜ ((c : List ℕ) → outcome r (now (left .exit)) (now (right .exit)) c ≡ appendWhite (state (now (left .entry)) (now (right .entry)) c x) i) ⌝ }
+    requires { ⌜ i < length (now left) ⌝ }
+    requires { ⌜ i < length (now right) ⌝ }
+    requires { ⌜ x .last < length (now left) ⌝ }
+    requires { ⌜ x .steps < 20000000 ⌝ }
+    requires { ⌜ i < 4096 ⌝ }
+    requires { ⌜ x .r ≤ 64 ⌝ }
+    ensures { λ r. ⌜ ((c : List ℕ) → outcome r (is left) (is right) c
+        ≡ appendWhite (state (was left) (was right) c x) i) ⌝ }
 {
     let at = i as usize;
     let end = x.last as usize;
@@ -129,8 +153,14 @@ fn append_white(left: &mut [u16], right: &mut [u16], x: Record, i: u16) -> Made
 
 // [Append 1] Append i: black is made white, white goes to the free list.
 fn append_step(left: &mut [u16], right: &mut [u16], colour: &mut [u8], x: Record, i: u16) -> Made
-    requires { ⌜ (i < length (now left)) × ((i < length (now right)) × ((i < length (now colour)) × ((x .last < length (now left)) × ((x .steps < 20000000) × ((i < 4096) × (x .r ≤ 64)))))) ⌝ }
-    ensures { λ r. ⌜ outcome r (now (left .exit)) (now (right .exit)) (now (colour .exit)) ≡ appendStep (state (now (left .entry)) (now (right .entry)) (now (colour .entry)) x) i ⌝ }
+    requires { ⌜ i < length (now left) ⌝ }
+    requires { ⌜ i < length (now right) ⌝ }
+    requires { ⌜ i < length (now colour) ⌝ }
+    requires { ⌜ x .last < length (now left) ⌝ }
+    requires { ⌜ x .steps < 20000000 ⌝ }
+    requires { ⌜ i < 4096 ⌝ }
+    requires { ⌜ x .r ≤ 64 ⌝ }
+    ensures { λ r. ⌜ leaves r left right colour ≡ appendStep (given left right colour x) i ⌝ }
 {
     let at = i as usize;
     if colour[at] == 2 {
@@ -157,8 +187,9 @@ pub fn phase_step(
     x: Record,
     phase: Phase,
 ) -> Made
-    requires { ⌜ (Good (length (now left)) (length (now right)) (length (now colour)) x) × (Inside (x .m) (x .r) phase) ⌝ }
-    ensures { λ r. ⌜ outcome r (now (left .exit)) (now (right .exit)) (now (colour .exit)) ≡ phaseStep (state (now (left .entry)) (now (right .entry)) (now (colour .entry)) x) phase ⌝ }
+    requires { ⌜ Good (length (now left)) (length (now right)) (length (now colour)) x ⌝ }
+    requires { ⌜ Inside (x .m) (x .r) phase ⌝ }
+    ensures { λ r. ⌜ leaves r left right colour ≡ phaseStep (given left right colour x) phase ⌝ }
 {
     match phase {
         Phase::Roots(i) => shade_step(colour, x, i, after_roots(x.m, x.r, i)),
@@ -182,9 +213,10 @@ pub fn phase_step(
     }
 }
 
-// One step of the collector. Refused: 1 and 2 for the sizes and the record, 7 where a value that the step reads is bad.
+// One step of the collector. Refused: 1 and 2 for the sizes and the record, 7 where a value that
+// the step reads is bad.
 pub fn collect(left: &mut [u16], right: &mut [u16], colour: &mut [u8], x: Record) -> Made
-    ensures { λ r. ⌜ outcome r (now (left .exit)) (now (right .exit)) (now (colour .exit)) ≡ step collecting (state (now (left .entry)) (now (right .entry)) (now (colour .entry)) x) ⌝ }
+    ensures { λ r. ⌜ leaves r left right colour ≡ step collecting (given left right colour x) ⌝ }
 {
     let code = rules::check(left.len(), right.len(), colour.len(), x);
     if code != 0 {

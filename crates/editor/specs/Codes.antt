@@ -14,4 +14,5 @@ lookCode ll rl cl x p = first (checkOf (ll ∷ rl ∷ []) cl x ∷ placeCode 2 (
 
 unfoldable pub linkCode : ℕ → ℕ → ℕ → Record → Place → ℕ → Place → ℕ
 linkCode ll rl cl x p side q =
-    first (checkOf (ll ∷ rl ∷ []) cl x ∷ sideCode 2 side ∷ placeCode 2 (x .r) p ∷ placeCode 2 (x .r) q ∷ owedCode (x .owed) ∷ [])
+    first (checkOf (ll ∷ rl ∷ []) cl x ∷ sideCode 2 side ∷ placeCode 2 (x .r) p ∷ placeCode 2 (x .r)
+    q ∷ owedCode (x .owed) ∷ [])

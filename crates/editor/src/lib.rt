@@ -15,6 +15,8 @@ ghost use Rattle.rules.specs.Steps.{step, looking, linking, shading};
 ghost use Rattle.rules.specs.Facts.{Good, Owable};
 ghost use Rattle.rules.specs.declared.Record.{Record};
 ghost use Rattle.editor.specs.Codes.{lookCode, linkCode};
+ghost use Rattle.base.specs.Lent.{was, is};
+ghost use Rattle.rules.specs.Lent.{given};
 
 fn look_code(lefts: usize, rights: usize, colours: usize, x: Record, p: Place) -> u8
     ensures { λ c. ⌜ c ≡ lookCode lefts rights colours x p ⌝ }
@@ -28,7 +30,8 @@ fn look_code(lefts: usize, rights: usize, colours: usize, x: Record, p: Place) -
 
 // Names the node at a place.
 pub fn look(left: &[u16], right: &[u16], colour: &[u8], x: Record, p: Place) -> Made
-    ensures { λ r. ⌜ outcome r (now (left .entry)) (now (right .entry)) (now (colour .entry)) ≡ step (looking p) (state (now (left .entry)) (now (right .entry)) (now (colour .entry)) x) ⌝ }
+    ensures { λ r. ⌜ outcome r (was left) (was right) (was colour)
+        ≡ step (looking p) (given left right colour x) ⌝ }
 {
     let code = look_code(left.len(), right.len(), colour.len(), x, p);
     if code != 0 {
@@ -83,8 +86,12 @@ fn link_code(
 
 // Link, from its source n: the target is walked, the edge moves, the shade is owed.
 fn link_to(left: &mut [u16], right: &mut [u16], x: Record, side: u32, q: Place, n: u16) -> Made
-    requires { ⌜ (Good (length (now left)) (length (now right)) (x .m) x) × ((q .slot < x .r) × ((n < x .m) × (side < 2))) ⌝ }
-    ensures { λ r. ⌜ ((c : List ℕ) → outcome r (now (left .exit)) (now (right .exit)) c ≡ linkTo (state (now (left .entry)) (now (right .entry)) c x) side q n) ⌝ }
+    requires { ⌜ Good (length (now left)) (length (now right)) (x .m) x ⌝ }
+    requires { ⌜ q .slot < x .r ⌝ }
+    requires { ⌜ n < x .m ⌝ }
+    requires { ⌜ side < 2 ⌝ }
+    ensures { λ r. ⌜ ((c : List ℕ) → outcome r (is left) (is right) c
+        ≡ linkTo (state (was left) (was right) c x) side q n) ⌝ }
 {
     let to = places::walk(left, right, x.m, q);
     let Walk::At(t) = to else {
@@ -102,8 +109,13 @@ fn link_to(left: &mut [u16], right: &mut [u16], x: Record, side: u32, q: Place, 
 
 // Link, from its source place.
 fn link_from(left: &mut [u16], right: &mut [u16], x: Record, p: Place, side: u32, q: Place) -> Made
-    requires { ⌜ (Good (length (now left)) (length (now right)) (x .m) x) × ((p .slot < x .r) × ((q .slot < x .r) × (side < 2))) ⌝ }
-    ensures { λ r. ⌜ ((c : List ℕ) → outcome r (now (left .exit)) (now (right .exit)) c ≡ depart (state (now (left .entry)) (now (right .entry)) c x) p (linkTo (state (now (left .entry)) (now (right .entry)) c x) side q)) ⌝ }
+    requires { ⌜ Good (length (now left)) (length (now right)) (x .m) x ⌝ }
+    requires { ⌜ p .slot < x .r ⌝ }
+    requires { ⌜ q .slot < x .r ⌝ }
+    requires { ⌜ side < 2 ⌝ }
+    ensures { λ r. ⌜ ((c : List ℕ) → outcome r (is left) (is right) c
+        ≡ depart (state (was left) (was right) c x) p
+        (linkTo (state (was left) (was right) c x) side q)) ⌝ }
 {
     let from = places::walk(left, right, x.m, p);
     let Walk::At(n) = from else {
@@ -131,7 +143,8 @@ pub fn link(
     side: u32,
     q: Place,
 ) -> Made
-    ensures { λ r. ⌜ outcome r (now (left .exit)) (now (right .exit)) (now (colour .entry)) ≡ step (linking p side q) (state (now (left .entry)) (now (right .entry)) (now (colour .entry)) x) ⌝ }
+    ensures { λ r. ⌜ outcome r (is left) (is right) (was colour)
+        ≡ step (linking p side q) (given left right colour x) ⌝ }
 {
     let code = link_code(left.len(), right.len(), colour.len(), x, p, side, q);
     if code != 0 {
@@ -146,7 +159,8 @@ pub fn link(
 // Shades the node owed; refused 6 where nothing is.
 fn pay(colour: &mut [u8], x: Record, owed: Owed) -> Made
     requires { ⌜ Owable (length (now colour)) owed ⌝ }
-    ensures { λ r. ⌜ ((es : List (List ℕ)) → handed r es (now (colour .exit)) ≡ pay (table es (now (colour .entry)) x) owed) ⌝ }
+    ensures { λ r. ⌜ ((es : List (List ℕ)) → handed r es (is colour)
+        ≡ pay (table es (was colour) x) owed) ⌝ }
 {
     match owed {
         Owed::Nothing => Made {
@@ -172,7 +186,8 @@ fn pay(colour: &mut [u8], x: Record, owed: Owed) -> Made
 
 // Shades the node owed, and nothing is owed afterwards.
 pub fn shade(left: &[u16], right: &[u16], colour: &mut [u8], x: Record) -> Made
-    ensures { λ r. ⌜ outcome r (now (left .entry)) (now (right .entry)) (now (colour .exit)) ≡ step shading (state (now (left .entry)) (now (right .entry)) (now (colour .entry)) x) ⌝ }
+    ensures { λ r. ⌜ outcome r (was left) (was right) (is colour)
+        ≡ step shading (given left right colour x) ⌝ }
 {
     let code = rules::check(left.len(), right.len(), colour.len(), x);
     if code != 0 {

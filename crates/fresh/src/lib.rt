@@ -6,9 +6,11 @@ ghost use mathlib.Core.Path.{_≡_};
 ghost use mathlib.Core.List.{[], _∷_};
 ghost use Prim.Native.Nat.{_<_, _≤_};
 ghost use lib.ListN.{length};
-ghost use Rattle.rules.specs.Table.{state, outcome};
+ghost use Rattle.rules.specs.Table.{state};
 ghost use Rattle.rules.specs.Records.{freshRecord};
 ghost use Rattle.rules.specs.Fresh.{nextFree, freshLeft, freshLast, freshState, fresh};
+ghost use Rattle.base.specs.Lent.{was, is};
+ghost use Rattle.rules.specs.Lent.{leaves};
 
 // The node after n on the free list.
 fn next_free(m: u16, n: u16) -> u16
@@ -23,7 +25,8 @@ fn next_free(m: u16, n: u16) -> u16
 
 // The left edge of node n.
 fn left_of(m: u16, r: u16, n: u16) -> u16
-    requires { ⌜ (r ≤ 64) × (n < 4096) ⌝ }
+    requires { ⌜ r ≤ 64 ⌝ }
+    requires { ⌜ n < 4096 ⌝ }
     ensures { λ e. ⌜ e ≡ freshLeft m r n ⌝ }
 {
     if n == 1 {
@@ -37,8 +40,13 @@ fn left_of(m: u16, r: u16, n: u16) -> u16
 
 // Writes every node.
 fn fill(left: &mut [u16], right: &mut [u16], colour: &mut [u8], m: u16, r: u16)
-    requires { ⌜ (length (now left) ≡ m) × ((length (now right) ≡ m) × ((length (now colour) ≡ m) × ((m ≤ 4096) × (r ≤ 64)))) ⌝ }
-    ensures { λ _. ⌜ state (now (left .exit)) (now (right .exit)) (now (colour .exit)) (freshRecord m r (freshLast m r)) ≡ freshState 2 m r ⌝ }
+    requires { ⌜ length (now left) ≡ m ⌝ }
+    requires { ⌜ length (now right) ≡ m ⌝ }
+    requires { ⌜ length (now colour) ≡ m ⌝ }
+    requires { ⌜ m ≤ 4096 ⌝ }
+    requires { ⌜ r ≤ 64 ⌝ }
+    ensures { λ _. ⌜ state (is left) (is right) (is colour) (freshRecord m r (freshLast m r))
+        ≡ freshState 2 m r ⌝ }
 {
     let mut n = 0;
     while n < m {
@@ -52,7 +60,8 @@ fn fill(left: &mut [u16], right: &mut [u16], colour: &mut [u8], m: u16, r: u16)
 
 // The last free node, or FREE.
 fn last_of(m: u16, r: u16) -> u16
-    requires { ⌜ (3 ≤ m) × (r ≤ 64) ⌝ }
+    requires { ⌜ 3 ≤ m ⌝ }
+    requires { ⌜ r ≤ 64 ⌝ }
     ensures { λ n. ⌜ n ≡ freshLast m r ⌝ }
 {
     if r + 2 < m {
@@ -63,7 +72,8 @@ fn last_of(m: u16, r: u16) -> u16
 
 // A fresh table of m nodes and r slots, and its record. Refused: 1.
 pub fn fresh(left: &mut [u16], right: &mut [u16], colour: &mut [u8], m: usize, r: usize) -> Made
-    ensures { λ d. ⌜ outcome d (now (left .exit)) (now (right .exit)) (now (colour .exit)) ≡ fresh m r (now (left .entry) ∷ now (right .entry) ∷ []) (now (colour .entry)) ⌝ }
+    ensures { λ d. ⌜ leaves d left right colour
+        ≡ fresh m r (was left ∷ was right ∷ []) (was colour) ⌝ }
 {
     if !rules::size_ok(m, r, left.len(), right.len(), colour.len()) {
         return Made {

@@ -1,9 +1,12 @@
-// The schedule program: a block of standard input is read, answered and written to standard output, until the input ends. What is printed is defined and
-// proved in crates lines and transcript; here is only what the system does. A call that is interrupted is made again, and a write that took a part goes on
-// behind it. A program has no exit status: one line on standard error says how the run ended, unless all was answered.
+// The schedule program: a block of standard input is read, answered and written to standard output,
+// until the input ends. What is printed is defined and proved in crates lines and transcript; here
+// is only what the system does. A call that is interrupted is made again, and a write that took a
+// part goes on behind it. A program has no exit status: one line on standard error says how the run
+// ended, unless all was answered.
 use transcript::Session;
 
-// A block of the input, and an output with room for its answers: a line has at least its newline, an answer at most 22 bytes.
+// A block of the input, and an output with room for its answers: a line has at least its newline,
+// an answer at most 22 bytes.
 const BLOCK: usize = 16384;
 
 const OUT: usize = 360448;

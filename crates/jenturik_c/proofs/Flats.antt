@@ -23,7 +23,8 @@ use Rattle.jenturik_c.specs.Flat.{stepAt, stepsFrom, stepsOf}
 same-record : (code n : ℕ) (x : Record) (g : Going) → g ≡ begun code n x → g .rec ≡ x
 unfolding begun
 same-record code n x g e =
-    ap (λ (z : Going). z .rec) e ∙ split (λ (z : Going). z .rec ≡ x) (eqb code 0) (going 0 n x) (ended 0 code x) (λ h. refl) (λ h. refl)
+    ap (λ (z : Going). z .rec) e ∙ split (λ (z : Going). z .rec ≡ x) (eqb code 0) (going 0 n x)
+    (ended 0 code x) (λ h. refl) (λ h. refl)
 
 module _ (w : List ℕ) where
   many : (n i : ℕ) → length (stepsFrom w i n) ≡ n
@@ -39,7 +40,8 @@ module _ (w : List ℕ) where
   unfolding stepsFrom
   among zero i j b lt = absurd (omega (arith, lt))
   among (suc n) i zero b lt = ap (stepAt w) (sym (add-zero i))
-  among (suc n) i (suc j) b lt = among n (suc i) j b (omega (arith, lt)) ∙ ap (stepAt w) (omega arith)
+  among (suc n) i (suc j) b lt = among n (suc i) j b (omega (arith, lt))
+      ∙ ap (stepAt w) (omega arith)
 
   at : (j : ℕ) (b : Step) → j < length w / 8 → getD (stepsOf w) j b ≡ stepAt w j
   unfolding stepsOf
@@ -49,24 +51,32 @@ module _ (w : List ℕ) where
   abbrev pub Stands : Going → List ℕ → List ℕ → List ℕ → Going → State → Type 0
   Stands g₀ l r c g s = Inv (stepsOf w) (schedule (stepsOf w) (state l r c (g₀ .rec))) g s
 
-  pub starts : (l r c : List ℕ) (x : Record) (g : Going) → g ≡ begun (check (state l r c x)) (length w / 8) x → Stands g l r c g (state l r c (g .rec))
+  pub starts : (l r c : List ℕ) (x : Record) (g : Going) → g
+      ≡ begun (check (state l r c x)) (length w / 8) x → Stands g l r c g (state l r c (g .rec))
   starts l r c x g e =
-      subst (λ (y : Record). Inv (stepsOf w) (schedule (stepsOf w) (state l r c y)) g (state l r c (g .rec))) (sym (same-record _ _ x g e))
-      (begins (stepsOf w) l r c x g (e ∙ ap (λ (n : ℕ). begun (check (state l r c x)) n x) (sym count)))
+      subst (λ (y : Record). Inv (stepsOf w) (schedule (stepsOf w) (state l r c y)) g
+      (state l r c (g .rec))) (sym (same-record _ _ x g e))
+      (begins (stepsOf w) l r c x g (e ∙ ap (λ (n : ℕ). begun (check (state l r c x)) n x)
+      (sym count)))
 
-  module _ (last : Followed) (g : Going) (s : State) (i : Inv (stepsOf w) last g s) (lt : g .at < g .end) where
+  module _ (last : Followed) (g : Going) (s : State) (i : Inv (stepsOf w) last g s)
+      (lt : g .at < g .end) where
     below : g .at < length w / 8
     below = subst (λ (n : ℕ). g .at < n) count (inside (stepsOf w) last g s i lt)
 
     pub fits : 8 * g .at + 8 ≤ length w
     fits = omega (arith, below)
 
-    pub goes-on : (a : Step) (l r c : List ℕ) (g′ : Going) → a ≡ stepAt w (g .at) → ((d : Made) × ((outcome d l r c ≡ step a s) × (g′ ≡ after g (d .answer) (d .rec))))
+    pub goes-on : (a : Step) (l r c : List ℕ) (g′ : Going) → a ≡ stepAt w (g .at)
+        → ((d : Made) × ((outcome d l r c ≡ step a s) × (g′ ≡ after g (d .answer) (d .rec))))
         → Inv (stepsOf w) last g′ (state l r c (g′ .rec)) × (g′ .end - g′ .at < g .end - g .at)
     goes-on a l r c g′ q (d, (e, h)) =
-        turns (stepsOf w) last g s a d l r c g′ i lt (e ∙ ap (λ (z : Step). step z s) (q ∙ sym (at (g .at) a below))) h
+        turns (stepsOf w) last g s a d l r c g′ i lt
+        (e ∙ ap (λ (z : Step). step z s) (q ∙ sym (at (g .at) a below))) h
 
-  pub ends : (l r c : List ℕ) (x : Record) (g₀ g : Going) (s : State) → g₀ ≡ begun (check (state l r c x)) (length w / 8) x → Stands g₀ l r c g s → g .end ≤ g .at
+  pub ends : (l r c : List ℕ) (x : Record) (g₀ g : Going) (s : State) → g₀
+      ≡ begun (check (state l r c x)) (length w / 8) x → Stands g₀ l r c g s → g .end ≤ g .at
       → followed (g .at) (g .code) s ≡ schedule (stepsOf w) (state l r c x)
   ends l r c x g₀ g s e i le =
-      sym (leaves (stepsOf w) _ g s i le) ∙ ap (λ (y : Record). schedule (stepsOf w) (state l r c y)) (same-record _ _ x g₀ e)
+      sym (leaves (stepsOf w) _ g s i le)
+      ∙ ap (λ (y : Record). schedule (stepsOf w) (state l r c y)) (same-record _ _ x g₀ e)

@@ -10,7 +10,8 @@ use Rattle.base.specs.Choice.{first}
 use Rattle.base.proofs.Tests.{pick-yes, split}
 use Rattle.rules.specs.Table.{State, Outcome, state, outcome}
 use Rattle.rules.specs.Check.{check}
-use Rattle.rules.specs.Fresh.{freshRecord, fresh}
+use Rattle.rules.specs.Records.{freshRecord}
+use Rattle.rules.specs.Fresh.{fresh}
 use Rattle.rules.specs.Steps.{step, run, looking, codeOf}
 use Rattle.rules.specs.Schedules.{Followed, followed, schedule}
 use Rattle.rules.specs.declared.Step.{Step}

@@ -8,7 +8,8 @@ use Rattle.rules.specs.Table.{State, Outcome, state}
 use Rattle.rules.specs.Steps.{codeOf, nodeOf}
 use Rattle.rules.specs.declared.Place.{Place}
 use Rattle.rules.specs.declared.Answer.{Answer}
-use Rattle.rules.specs.declared.Answer.the-variants.{Started, Named, Linked, Taken, Shaded, Looked, Blackened, Whitened, Appended, Refused}
+use Rattle.rules.specs.declared.Answer.the-variants.{Started, Named, Linked, Taken, Shaded, Looked}
+use Rattle.rules.specs.declared.Answer.the-variants.{Blackened, Whitened, Appended, Refused}
 use Rattle.words.specs.Words.{wordsOf, recordOf, isRecord}
 use Rattle.jenturik_c.specs.declared.Told.{Told}
 
@@ -40,7 +41,14 @@ faced t l r c w = record { told = t; edges = l ∷ r ∷ []; colour = c; words =
 
 -- [C 6] what a call tells and leaves, the new record as words: Fresh too, whatever it answers
 abbrev pub shown : Outcome → Faced
-shown o = record { told = toldOf (o .answer); edges = o .state .edges; colour = o .state .colour; words = wordsOf (o .state .rec) }
+shown o = record {
+  told =
+      toldOf (o .answer);
+  edges = o .state .edges;
+  colour = o .state .colour;
+  words = wordsOf
+      (o .state .rec);
+}
 
 -- [C 4] words that are no record's
 abbrev pub noRecord : Told

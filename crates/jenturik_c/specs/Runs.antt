@@ -19,14 +19,30 @@ pub record FacedRun : Type 0 where
   pub words : List ℕ
 
 abbrev pub facedRun : ℕ → ℕ → List ℕ → List ℕ → List ℕ → List ℕ → FacedRun
-facedRun n code l r c w = record { done = n; code = code; edges = l ∷ r ∷ []; colour = c; words = w }
+facedRun n code l r c w = record {
+  done =
+      n;
+  code = code;
+  edges = l ∷ r ∷ [];
+  colour = c;
+  words = w;
+}
 
 abbrev pub shownRun : Followed → FacedRun
-shownRun f = record { done = f .done; code = f .code; edges = f .state .edges; colour = f .state .colour; words = wordsOf (f .state .rec) }
+shownRun f = record {
+  done =
+      f .done;
+  code = f .code;
+  edges = f .state .edges;
+  colour = f .state .colour;
+  words = wordsOf
+      (f .state .rec);
+}
 
 -- the run f, where the words are a record's; else nothing changes
 unfoldable pub faceRun : (State → Followed) → List ℕ → List ℕ → List ℕ → List ℕ → FacedRun
-faceRun f l r c w = pick (isRecord w) (shownRun (f (state l r c (recordOf w)))) (facedRun 0 2 l r c w)
+faceRun f l r c w =
+    pick (isRecord w) (shownRun (f (state l r c (recordOf w)))) (facedRun 0 2 l r c w)
 
 -- what the last of n collector steps answers, or the one that is refused
 abbrev pub lastOf : Last → Told

@@ -1,4 +1,5 @@
-// The library for callers in C: each call over three slices and sixteen words that the caller keeps.
+// The library for callers in C: each call over three slices and sixteen words that the caller
+// keeps.
 use rules::Answer;
 use rules::Place;
 use rules::Ran;
@@ -9,14 +10,16 @@ ghost use mathlib.Core.List.{[], _∷_};
 ghost use Prim.Native.Nat.{_+_, _*_, _/_, _≤_};
 ghost use lib.ListN.{length};
 ghost use mathlib.Core.Bool.{true};
-ghost use Rattle.rules.specs.Table.{state};
 ghost use Rattle.rules.specs.Fresh.{fresh};
 ghost use Rattle.rules.specs.Steps.{step, taking, linking, shading, collecting, looking};
 ghost use Rattle.rules.specs.Schedules.{ran, schedule, collects};
 ghost use Rattle.words.specs.Words.{isRecord};
-ghost use Rattle.jenturik_c.specs.Face.{whatOf, toldOf, noRecord, shown, faced, face, Stays, placeOf};
+ghost use Rattle.jenturik_c.specs.Face.{whatOf, toldOf, noRecord, shown, faced, face, Stays};
+ghost use Rattle.jenturik_c.specs.Face.{placeOf};
 ghost use Rattle.jenturik_c.specs.Flat.{stepAt, stepsOf, scheduleOf};
 ghost use Rattle.jenturik_c.specs.Runs.{facedRun, faceRun, lastOf, lastTold};
+ghost use Rattle.base.specs.Lent.{was, is};
+ghost use Rattle.rules.specs.Lent.{given};
 
 // What a call answers: what was done (0: refused), the code, the node.
 #[repr(C)]
@@ -33,7 +36,8 @@ pub struct Done {
     pub code: u32,
 }
 
-// What many steps of the collector answer: how many were done, and what the last one answers, or the one that was refused.
+// What many steps of the collector answer: how many were done, and what the last one answers, or
+// the one that was refused.
 #[repr(C)]
 pub struct Last {
     pub done: usize,
@@ -90,7 +94,9 @@ pub extern "C" fn jenturik_fresh(
     nodes: u32,
     slots: u32,
 ) -> Told
-    ensures { λ t. ⌜ (faced t (now (left .exit)) (now (right .exit)) (now (colour .exit)) (now (words .exit)) ≡ shown (fresh nodes slots (now (left .entry) ∷ now (right .entry) ∷ []) (now (colour .entry)))) × (true ≡ isRecord (now (words .exit))) ⌝ }
+    ensures { λ t. ⌜ (faced t (is left) (is right) (is colour) (is words)
+        ≡ shown (fresh nodes slots (was left ∷ was right ∷ []) (was colour))) × (true
+        ≡ isRecord (is words)) ⌝ }
 {
     let made = fresh::fresh(left, right, colour, nodes as usize, slots as usize);
     let rec = made.rec;
@@ -111,7 +117,9 @@ pub extern "C" fn jenturik_look(
     count: u32,
     word: u32,
 ) -> Told
-    ensures { λ t. ⌜ faced t (now (left .entry)) (now (right .entry)) (now (colour .entry)) (now (words .entry)) ≡ face (step (looking (placeOf slot count word))) (now (left .entry)) (now (right .entry)) (now (colour .entry)) (now (words .entry)) ⌝ }
+    ensures { λ t. ⌜ faced t (was left) (was right) (was colour) (was words)
+        ≡ face (step (looking (placeOf slot count word))) (was left) (was right) (was colour)
+        (was words) ⌝ }
 {
     let w = *words;
     if !words::is_record(w) {
@@ -138,7 +146,9 @@ pub extern "C" fn jenturik_link(
     tocount: u32,
     toword: u32,
 ) -> Told
-    ensures { λ t. ⌜ (faced t (now (left .exit)) (now (right .exit)) (now (colour .entry)) (now (words .exit)) ≡ face (step (linking (placeOf slot count word) side (placeOf toslot tocount toword))) (now (left .entry)) (now (right .entry)) (now (colour .entry)) (now (words .entry))) × Stays (now (words .entry)) (now (words .exit)) ⌝ }
+    ensures { λ t. ⌜ (faced t (is left) (is right) (was colour) (is words)
+        ≡ face (step (linking (placeOf slot count word) side (placeOf toslot tocount toword)))
+        (was left) (was right) (was colour) (was words)) × Stays (was words) (is words) ⌝ }
 {
     let w = *words;
     if !words::is_record(w) {
@@ -166,7 +176,9 @@ pub extern "C" fn jenturik_shade(
     colour: &mut [u8],
     words: &mut [u32; 16],
 ) -> Told
-    ensures { λ t. ⌜ (faced t (now (left .entry)) (now (right .entry)) (now (colour .exit)) (now (words .exit)) ≡ face (step shading) (now (left .entry)) (now (right .entry)) (now (colour .entry)) (now (words .entry))) × Stays (now (words .entry)) (now (words .exit)) ⌝ }
+    ensures { λ t. ⌜ (faced t (was left) (was right) (is colour) (is words)
+        ≡ face (step shading) (was left) (was right) (was colour) (was words)) × Stays
+        (was words) (is words) ⌝ }
 {
     let w = *words;
     if !words::is_record(w) {
@@ -192,7 +204,9 @@ pub extern "C" fn jenturik_take(
     word: u32,
     side: u32,
 ) -> Told
-    ensures { λ t. ⌜ (faced t (now (left .exit)) (now (right .exit)) (now (colour .exit)) (now (words .exit)) ≡ face (step (taking (placeOf slot count word) side)) (now (left .entry)) (now (right .entry)) (now (colour .entry)) (now (words .entry))) × Stays (now (words .entry)) (now (words .exit)) ⌝ }
+    ensures { λ t. ⌜ (faced t (is left) (is right) (is colour) (is words)
+        ≡ face (step (taking (placeOf slot count word) side)) (was left) (was right)
+        (was colour) (was words)) × Stays (was words) (is words) ⌝ }
 {
     let w = *words;
     if !words::is_record(w) {
@@ -215,7 +229,9 @@ pub extern "C" fn jenturik_collect(
     colour: &mut [u8],
     words: &mut [u32; 16],
 ) -> Told
-    ensures { λ t. ⌜ (faced t (now (left .exit)) (now (right .exit)) (now (colour .exit)) (now (words .exit)) ≡ face (step collecting) (now (left .entry)) (now (right .entry)) (now (colour .entry)) (now (words .entry))) × Stays (now (words .entry)) (now (words .exit)) ⌝ }
+    ensures { λ t. ⌜ (faced t (is left) (is right) (is colour) (is words)
+        ≡ face (step collecting) (was left) (was right) (was colour) (was words)) × Stays
+        (was words) (is words) ⌝ }
 {
     let w = *words;
     if !words::is_record(w) {
@@ -238,7 +254,10 @@ pub extern "C" fn jenturik_collect_many(
     words: &mut [u32; 16],
     n: usize,
 ) -> Last
-    ensures { λ r. ⌜ (facedRun (r .done) (r .code) (now (left .exit)) (now (right .exit)) (now (colour .exit)) (now (words .exit)) ≡ faceRun (schedule (collects n)) (now (left .entry)) (now (right .entry)) (now (colour .entry)) (now (words .entry))) × (lastOf r ≡ lastTold n (now (left .entry)) (now (right .entry)) (now (colour .entry)) (now (words .entry))) × Stays (now (words .entry)) (now (words .exit)) ⌝ }
+    ensures { λ r. ⌜ (facedRun (r .done) (r .code) (is left) (is right) (is colour) (is words)
+        ≡ faceRun (schedule (collects n)) (was left) (was right) (was colour) (was words)) ×
+        (lastOf r ≡ lastTold n (was left) (was right) (was colour) (was words)) × Stays
+        (was words) (is words) ⌝ }
 {
     let w = *words;
     if !words::is_record(w) {
@@ -265,7 +284,7 @@ pub extern "C" fn jenturik_collect_many(
 // The i-th step of a schedule of words, eight to a step.
 fn step_at(steps: &[u32], i: usize) -> Step
     requires { ⌜ 8 * i + 8 ≤ length (now steps) ⌝ }
-    ensures { λ a. ⌜ a ≡ stepAt (now (steps .entry)) i ⌝ }
+    ensures { λ a. ⌜ a ≡ stepAt (was steps) i ⌝ }
 {
     let at = 8 * i;
     Step {
@@ -282,7 +301,8 @@ fn step_at(steps: &[u32], i: usize) -> Step
 
 // The whole steps of a schedule of words, in order until one is refused.
 fn follow(steps: &[u32], left: &mut [u16], right: &mut [u16], colour: &mut [u8], x: Record) -> Ran
-    ensures { λ r. ⌜ ran r (now (left .exit)) (now (right .exit)) (now (colour .exit)) ≡ schedule (stepsOf (now (steps .entry))) (state (now (left .entry)) (now (right .entry)) (now (colour .entry)) x) ⌝ }
+    ensures { λ r. ⌜ ran r (is left) (is right) (is colour)
+        ≡ schedule (stepsOf (was steps)) (given left right colour x) ⌝ }
 {
     let mut g = schedule::begin(left.len(), right.len(), colour.len(), x, steps.len() / 8);
     while g.at < g.end {
@@ -304,7 +324,8 @@ fn schedule_of(
     colour: &mut [u8],
     x: Record,
 ) -> Ran
-    ensures { λ r. ⌜ ran r (now (left .exit)) (now (right .exit)) (now (colour .exit)) ≡ scheduleOf (now (steps .entry)) (state (now (left .entry)) (now (right .entry)) (now (colour .entry)) x) ⌝ }
+    ensures { λ r. ⌜ ran r (is left) (is right) (is colour)
+        ≡ scheduleOf (was steps) (given left right colour x) ⌝ }
 {
     if steps.len() % 8 != 0 {
         return Ran {
@@ -325,7 +346,9 @@ pub extern "C" fn jenturik_schedule(
     words: &mut [u32; 16],
     steps: &[u32],
 ) -> Done
-    ensures { λ r. ⌜ (facedRun (r .done) (r .code) (now (left .exit)) (now (right .exit)) (now (colour .exit)) (now (words .exit)) ≡ faceRun (scheduleOf (now (steps .entry))) (now (left .entry)) (now (right .entry)) (now (colour .entry)) (now (words .entry))) × Stays (now (words .entry)) (now (words .exit)) ⌝ }
+    ensures { λ r. ⌜ (facedRun (r .done) (r .code) (is left) (is right) (is colour) (is words)
+        ≡ faceRun (scheduleOf (was steps)) (was left) (was right) (was colour) (was words)) ×
+        Stays (was words) (is words) ⌝ }
 {
     let w = *words;
     if !words::is_record(w) {

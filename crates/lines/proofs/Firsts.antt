@@ -1,8 +1,9 @@
--- The first line in the program's own tables: with the full 4,096 entries it prints and begins what `first` says, whatever they held.
+-- The first line in the program's own tables: with the full 4,096 entries it prints and begins what
+-- `first` says, whatever they held.
 use Prim.Native.Nat.{ℕ, zero, suc, _<_, _≤_}
 use mathlib.Core.Bool.{Bool, true, false, true≢false}
 use mathlib.Core.Path.{_≡_, refl, sym, ap, _∙_}
-use mathlib.Core.List.{List, [], _∷_, _++_}
+use mathlib.Core.List.{List, [], _∷_}
 use native.Mathlib.Omega.{arith}
 use borrow.Author.Tests.{leb-true, leb-false}
 use lib.Dec.{leb}
@@ -17,13 +18,16 @@ use Rattle.rules.specs.Fresh.{tabulate, fresh, freshLast, freshState}
 use Rattle.rules.specs.declared.Answer.the-variants.{Started, Refused}
 use Rattle.text.specs.declared.Said.{Said}
 use Rattle.text.specs.declared.Said.the-variants.{First, Do, Collect, Unreadable}
-use Rattle.lines.specs.Lines.{Line, prints, answered, placed, failed, opened, first, entries}
+use Rattle.lines.specs.Lines.{Line, answered, placed, failed, opened, first, entries}
 
 -- the table in the first m entries
 abbrev pub fronts : ℕ → State → State
-fronts m s = state (take m (getD (s .edges) 0 [])) (take m (getD (s .edges) 1 [])) (take m (s .colour)) (s .rec)
+fronts m s =
+    state (take m (getD (s .edges) 0 [])) (take m (getD (s .edges) 1 [])) (take m (s .colour))
+    (s .rec)
 
--- what a first line prints in the program's own tables, t, is what is told of it, u; and so is the table, unless it fails
+-- what a first line prints in the program's own tables, t, is what is told of it, u; and so is the
+-- table, unless it fails
 pub record Opens (t u : Line) : Type 0 where
   pub code : t .code ≡ u .code
   pub node : t .node ≡ u .node
@@ -32,69 +36,122 @@ pub record Opens (t u : Line) : Type 0 where
 length-tabulate : (f : ℕ → ℕ) (n : ℕ) → length (tabulate f n) ≡ n
 unfolding tabulate
 length-tabulate f zero = refl
-length-tabulate f (suc n) = length-append (tabulate f n) (f n ∷ []) ∙ omega (arith, length-tabulate f n)
+length-tabulate f (suc n) = length-append (tabulate f n) (f n ∷ [])
+    ∙ omega (arith, length-tabulate f n)
 
 -- Fresh in lists of m entries, whatever they hold
 module _ (m r : ℕ) where
   fresh-in : State → Outcome
-  fresh-in s = pick (sizeOk m r (m ∷ m ∷ []) m) (record { answer = Started (freshLast m r); state = freshState 2 m r }) (record { answer = Refused 1 0; state = s })
+  fresh-in s =
+      pick (sizeOk m r (m ∷ m ∷ []) m) (record
+      { answer = Started (freshLast m r); state = freshState 2 m r })
+      (record { answer = Refused 1 0; state = s })
 
   judged : (l k c : List ℕ) → length l ≡ m → length k ≡ m → length c ≡ m
       → fresh m r (l ∷ k ∷ []) c ≡ fresh-in (state l k c (freshRecord 0 0 0))
   unfolding fresh fresh-in
   judged l k c p q s = rw (p, q, s)
 
-  stated : first (First m r) ≡ answered (fresh-in (state (replicate m 0) (replicate m 0) (replicate m 0) (freshRecord 0 0 0)))
+  stated : first (First m r) ≡ answered
+      (fresh-in (state (replicate m 0) (replicate m 0) (replicate m 0) (freshRecord 0 0 0)))
   unfolding first
-  stated = ap answered (judged _ _ _ (length-replicate m 0) (length-replicate m 0) (length-replicate m 0))
+  stated =
+      ap answered (judged _ _ _ (length-replicate m 0) (length-replicate m 0)
+      (length-replicate m 0))
 
   large : entries < m → false ≡ sizeOk m r (m ∷ m ∷ []) m
   unfolding sizeOk
   large h = every-skip _ _ _ (le-yes 3 m (omega arith)) (every-here _ _ (le-no m entries h))
 
-  tables : (l k c : List ℕ) → fronts m (placed (record { answer = Started (freshLast m r); state = freshState 2 m r }) l k c .state) ≡ freshState 2 m r
+  tables : (l k c : List ℕ) → fronts m
+      (placed (record { answer = Started (freshLast m r); state = freshState 2 m r }) l k c .state)
+      ≡ freshState 2 m r
   unfolding freshState
   tables l k c =
-      rw (take-at _ l m (length-tabulate _ m), take-at _ k m (length-tabulate _ m), take-at _ c m (length-tabulate _ m))
+      rw (
+        take-at _ l m (length-tabulate _ m),
+        take-at _ k m (length-tabulate _ m),
+        take-at _ c m
+            (length-tabulate _ m),
+      )
 
   module _ (l k c : List ℕ) where
     begun : m ≤ length l → m ≤ length k → m ≤ length c
-        → Opens (placed (fresh m r (take m l ∷ take m k ∷ []) (take m c)) (drop m l) (drop m k) (drop m c)) (first (First m r))
+        → Opens (placed (fresh m r (take m l ∷ take m k ∷ []) (take m c)) (drop m l) (drop m k)
+        (drop m c)) (first (First m r))
     unfolding fresh-in freshState pick
     begun p q s =
-        rw (stated, judged (take m l) (take m k) (take m c) (length-take-le m l p) (length-take-le m k q) (length-take-le m c s))
+        rw (
+          stated,
+          judged (take m l) (take m k) (take m c) (length-take-le m l p)
+              (length-take-le m k q) (length-take-le m c s),
+        )
         (go (sizeOk m r (m ∷ m ∷ []) m))
       where
         go : (b : Bool)
-            → Opens (placed (pick b (record { answer = Started (freshLast m r); state = freshState 2 m r }) (record { answer = Refused 1 0; state = state (take m l) (take m k) (take m c) (freshRecord 0 0 0) })) (drop m l) (drop m k) (drop m c))
-            (answered (pick b (record { answer = Started (freshLast m r); state = freshState 2 m r }) (record { answer = Refused 1 0; state = state (replicate m 0) (replicate m 0) (replicate m 0) (freshRecord 0 0 0) })))
-        go true = record { code = refl; node = refl; table = λ _. tables (drop m l) (drop m k) (drop m c) }
+            → Opens
+            (placed
+            (pick b (record { answer = Started (freshLast m r); state = freshState 2 m r })
+            (record {
+              answer = Refused 1 0;
+              state = state (take m l) (take m k) (take m c)
+                  (freshRecord 0 0 0);
+            })) (drop m l) (drop m k) (drop m c))
+            (answered
+            (pick b (record { answer = Started (freshLast m r); state = freshState 2 m r })
+            (record {
+              answer = Refused 1 0;
+              state = state (replicate m 0) (replicate m 0)
+                  (replicate m 0) (freshRecord 0 0 0);
+            })))
+        go true = record {
+          code =
+              refl;
+          node = refl;
+          table = λ _. tables (drop m l) (drop m k) (drop m c);
+        }
         go false = record { code = refl; node = refl; table = λ z. absurd (omega arith) }
 
     too-large : entries < m → Opens (failed 1 l k c) (first (First m r))
     unfolding fresh-in pick
-    too-large h = rw (stated, ← large h) (record { code = refl; node = refl; table = λ z. absurd (omega arith) })
+    too-large h =
+        rw (stated, ← large h)
+        (record { code = refl; node = refl; table = λ z. absurd (omega arith) })
 
-    opens : entries ≤ length l → entries ≤ length k → entries ≤ length c → Opens (opened (First m r) l k c) (first (First m r))
+    opens : entries ≤ length l → entries ≤ length k → entries ≤ length c
+        → Opens (opened (First m r) l k c) (first (First m r))
     unfolding opened
     opens p q s =
         split (λ (t : Line). Opens t (first (First m r))) tests _ _
-        (λ e. let h = each _ (sym e) in begun (leb-true _ _ (h .0)) (leb-true _ _ (h .1 .0)) (leb-true _ _ (h .1 .1 .0)))
+        (λ e. let h = each _ (sym e) in
+        begun (leb-true _ _ (h .0)) (leb-true _ _ (h .1 .0)) (leb-true _ _ (h .1 .1 .0)))
         (λ e. go (leb m entries) refl e)
       where
         tests : Bool
         tests = every (leb m (length l) ∷ leb m (length k) ∷ leb m (length c) ∷ [])
 
-        go : (b : Bool) → leb m entries ≡ b → tests ≡ false → Opens (failed 1 l k c) (first (First m r))
+        go : (b : Bool) → leb m entries ≡ b → tests ≡ false
+            → Opens (failed 1 l k c) (first (First m r))
         go true e f =
             let h = leb-true m entries e in
-            absurd (true≢false (every-skip _ _ _ (le-yes m (length l) (omega arith)) (every-skip _ _ _ (le-yes m (length k) (omega arith)) (every-last _ _ (le-yes m (length c) (omega arith)))) ∙ f))
+            absurd
+            (true≢false (every-skip _ _ _ (le-yes m (length l) (omega arith))
+            (every-skip _ _ _ (le-yes m (length k) (omega arith))
+            (every-last _ _ (le-yes m (length c) (omega arith)))) ∙ f))
         go false e f = too-large (leb-false m entries e)
 
 -- the first line in tables of 4,096 entries or more
-pub opens-first : (said : Said) (l k c : List ℕ) → entries ≤ length l → entries ≤ length k → entries ≤ length c → Opens (opened said l k c) (first said)
+pub opens-first : (said : Said) (l k c : List ℕ) → entries ≤ length l → entries ≤ length k
+    → entries ≤ length c → Opens (opened said l k c) (first said)
 unfolding opened first
 opens-first (First m r) l k c p q s = opens m r l k c p q s
-opens-first (Do a) l k c p q s = record { code = refl; node = refl; table = λ z. absurd (omega arith) }
-opens-first (Collect n) l k c p q s = record { code = refl; node = refl; table = λ z. absurd (omega arith) }
-opens-first Unreadable l k c p q s = record { code = refl; node = refl; table = λ z. absurd (omega arith) }
+opens-first (Do a) l k c p q s = record
+    { code = refl; node = refl; table = λ z. absurd (omega arith) }
+opens-first (Collect n) l k c p q s = record
+    { code = refl; node = refl; table = λ z. absurd (omega arith) }
+opens-first Unreadable l k c p q s = record {
+  code =
+      refl;
+  node = refl;
+  table = λ z. absurd (omega arith);
+}

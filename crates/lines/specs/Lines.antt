@@ -54,11 +54,13 @@ first (Do a) = prints 10 0 noTable
 first (Collect n) = prints 10 0 noTable
 first Unreadable = prints 10 0 noTable
 
--- the same with the program's own tables, which hold l, k and c: the table is made in their first m entries, and the others stay
+-- the same with the program's own tables, which hold l, k and c: the table is made in their first m
+-- entries, and the others stay
 abbrev pub placed : Outcome → List ℕ → List ℕ → List ℕ → Line
 placed o l k c =
     prints (codeOf (o .answer)) (nodeOf (o .answer))
-    (state (getD (o .state .edges) 0 [] ++ l) (getD (o .state .edges) 1 [] ++ k) (o .state .colour ++ c) (o .state .rec))
+    (state (getD (o .state .edges) 0 [] ++ l) (getD (o .state .edges) 1 [] ++ k)
+    (o .state .colour ++ c) (o .state .rec))
 
 -- a first line that fails leaves them as they are, and no table
 abbrev pub failed : ℕ → List ℕ → List ℕ → List ℕ → Line
@@ -68,7 +70,8 @@ failed code l k c = prints code 0 (state l k c (freshRecord 0 0 0))
 unfoldable pub opened : Said → List ℕ → List ℕ → List ℕ → Line
 opened (First m r) l k c =
     pick (every (leb m (length l) ∷ leb m (length k) ∷ leb m (length c) ∷ []))
-    (placed (fresh m r (take m l ∷ take m k ∷ []) (take m c)) (drop m l) (drop m k) (drop m c)) (failed 1 l k c)
+    (placed (fresh m r (take m l ∷ take m k ∷ []) (take m c)) (drop m l) (drop m k) (drop m c))
+    (failed 1 l k c)
 opened (Do a) l k c = failed 10 l k c
 opened (Collect n) l k c = failed 10 l k c
 opened Unreadable l k c = failed 10 l k c

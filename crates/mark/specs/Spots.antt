@@ -25,10 +25,11 @@ pub record Known (l k c : List ℕ) (x : Record) (cap : ℕ) (s : Spot) : Type 0
   pub lit : s .lit < x .m
 
 -- steps lead from s to r, which is known again
-pub record Goes (l k c : List ℕ) (x : Record) (cap : ℕ) (s : Spot) (c′ : List ℕ) (r : Spot) : Type 0 where
-  pub low : s .d ≤ r .d
-  pub leads : Leads (state l k c (standing x s)) (r .d - s .d) (state l k c′ (standing x r))
-  pub known : Known l k c′ x cap r
+pub record Goes (l k c : List ℕ) (x : Record) (cap : ℕ) (s : Spot) (c′ : List ℕ) (r : Spot) : Type 0
+  where
+    pub low : s .d ≤ r .d
+    pub leads : Leads (state l k c (standing x s)) (r .d - s .d) (state l k c′ (standing x r))
+    pub known : Known l k c′ x cap r
 
 -- node i is gray, and the four steps at it can be made
 pub record Ripe (l k c : List ℕ) (x : Record) (cap : ℕ) (s : Spot) : Type 0 where

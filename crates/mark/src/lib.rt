@@ -8,11 +8,14 @@ ghost use Prim.Native.Nat.{ℕ, _+_, _-_, _<_, _≤_, _%_};
 ghost use lib.ListN.{length, getD, set};
 ghost use Rattle.rules.specs.Table.{state, shadeIn};
 ghost use Rattle.rules.specs.declared.Phase.the-variants.{Scan};
-ghost use Rattle.skim.specs.Stirs.{stop, stirs, Calm};
+ghost use Rattle.skim.specs.Stirs.{stirs, Calm};
 ghost use Rattle.strides.specs.Leads.{Passes, Room, Leads, Fit};
 ghost use Rattle.mark.specs.Spots.{standing, Known, Goes, Ripe};
+ghost use Rattle.base.specs.Lent.{was, is};
+ghost use Rattle.rules.specs.Lent.{given};
 
-// Where the marking stands: Scan i, k; nodes blackened; steps made here; how many colours stop a look, at most; and the node that was lit last.
+// Where the marking stands: Scan i, k; nodes blackened; steps made here; how many colours stop a
+// look, at most; and the node that was lit last.
 struct Spot {
     i: usize,
     k: usize,
@@ -23,7 +26,10 @@ struct Spot {
 }
 
 fn standing(mut x: Record, s: Spot) -> Record
-    requires { ⌜ (s .i < 4096) × ((s .k ≤ 4096) × ((s .dark ≤ 4096) × (x .steps + s .d < 20000000))) ⌝ }
+    requires { ⌜ s .i < 4096 ⌝ }
+    requires { ⌜ s .k ≤ 4096 ⌝ }
+    requires { ⌜ s .dark ≤ 4096 ⌝ }
+    requires { ⌜ x .steps + s .d < 20000000 ⌝ }
     ensures { λ r. ⌜ r ≡ standing x s ⌝ }
 {
     x.steps = x.steps + s.d as u32;
@@ -44,7 +50,9 @@ fn around(n: usize, m: usize) -> usize
 
 // How far it is from i to t, round the end of the table.
 fn gap(i: usize, t: usize, m: usize) -> usize
-    requires { ⌜ (i < m) × ((t < m) × (m ≤ 4096)) ⌝ }
+    requires { ⌜ i < m ⌝ }
+    requires { ⌜ t < m ⌝ }
+    requires { ⌜ m ≤ 4096 ⌝ }
     ensures { λ e. ⌜ (i ≤ t → i + e ≡ t) × (t < i → i + e ≡ t + m) ⌝ }
 {
     if i <= t {
@@ -53,10 +61,15 @@ fn gap(i: usize, t: usize, m: usize) -> usize
     t + m - i
 }
 
-// How many looks from i on, at most near, find nothing: none stops where no colour does, and only at the node lit last where that is the only one.
+// How many looks from i on, at most near, find nothing: none stops where no colour does, and only
+// at the node lit last where that is the only one.
 fn ahead(colour: &[u8], m: usize, s: Spot, near: usize) -> usize
-    requires { ⌜ (length (now colour) ≡ m) × ((m ≤ 4096) × ((stirs (now colour) 0 m ≤ s .stirs) × ((s .i < m) × (s .lit < m)))) ⌝ }
-    ensures { λ e. ⌜ (e ≤ near) × Calm (now (colour .entry)) m (s .i) e ⌝ }
+    requires { ⌜ length (now colour) ≡ m ⌝ }
+    requires { ⌜ m ≤ 4096 ⌝ }
+    requires { ⌜ stirs (now colour) 0 m ≤ s .stirs ⌝ }
+    requires { ⌜ s .i < m ⌝ }
+    requires { ⌜ s .lit < m ⌝ }
+    ensures { λ e. ⌜ (e ≤ near) × Calm (was colour) m (s .i) e ⌝ }
 {
     let i = s.i;
     let t = s.lit;
@@ -76,8 +89,9 @@ fn ahead(colour: &[u8], m: usize, s: Spot, near: usize) -> usize
 
 // The looks that find nothing, all at once.
 fn hop(left: &[u16], right: &[u16], colour: &[u8], x: Record, cap: usize, s: Spot) -> Spot
-    requires { ⌜ (Known (now left) (now right) (now colour) x cap s) × (Room x cap) ⌝ }
-    ensures { λ r. ⌜ Goes (now (left .entry)) (now (right .entry)) (now (colour .entry)) x cap s (now (colour .entry)) r ⌝ }
+    requires { ⌜ Known (now left) (now right) (now colour) x cap s ⌝ }
+    requires { ⌜ Room x cap ⌝ }
+    ensures { λ r. ⌜ Goes (was left) (was right) (was colour) x cap s (was colour) r ⌝ }
 {
     let m = x.m as usize;
     let e = ahead(colour, m, s, strides::least(cap - s.d, s.k - 1));
@@ -94,7 +108,7 @@ fn hop(left: &[u16], right: &[u16], colour: &[u8], x: Record, cap: usize, s: Spo
 // Whether e is a good edge to a node with a good colour.
 fn edge_fit(m: u16, colour: &[u8], e: u16) -> bool
     requires { ⌜ m ≤ length (now colour) ⌝ }
-    ensures { λ ok. ⌜ (ok ≡ true → Fit m (now (colour .entry)) e) ⌝ }
+    ensures { λ ok. ⌜ (ok ≡ true → Fit m (was colour) e) ⌝ }
 {
     if m <= e {
         return false;
@@ -108,8 +122,9 @@ fn edge_fit(m: u16, colour: &[u8], e: u16) -> bool
 
 // Whether node i is gray and its four steps can be made.
 fn ripe(left: &[u16], right: &[u16], colour: &[u8], x: Record, cap: usize, s: Spot) -> bool
-    requires { ⌜ (Known (now left) (now right) (now colour) x cap s) × (Room x cap) ⌝ }
-    ensures { λ ok. ⌜ (ok ≡ true → Ripe (now (left .entry)) (now (right .entry)) (now (colour .entry)) x cap s) ⌝ }
+    requires { ⌜ Known (now left) (now right) (now colour) x cap s ⌝ }
+    requires { ⌜ Room x cap ⌝ }
+    ensures { λ ok. ⌜ (ok ≡ true → Ripe (was left) (was right) (was colour) x cap s) ⌝ }
 {
     if cap - s.d < 4 {
         return false;
@@ -130,7 +145,10 @@ fn ripe(left: &[u16], right: &[u16], colour: &[u8], x: Record, cap: usize, s: Sp
 // Shades a node; 1 where that makes it gray.
 fn light(colour: &mut [u8], n: u16) -> usize
     requires { ⌜ n < length (now colour) ⌝ }
-    ensures { λ r. ⌜ (r ≤ 1) × ((now (colour .exit) ≡ shadeIn (now (colour .entry)) n) × (stirs (now (colour .exit)) 0 (length (now (colour .exit))) ≤ stirs (now (colour .entry)) 0 (length (now (colour .entry))) + r)) ⌝ }
+    ensures { λ r. ⌜ (r ≤ 1) × ((is colour
+        ≡ shadeIn (was colour) n) ×
+        (stirs (is colour) 0 (length (is colour)) ≤ stirs (was colour) 0 (length (was colour)) +
+        r)) ⌝ }
 {
     let at = n as usize;
     if colour[at] == 0 {
@@ -142,7 +160,7 @@ fn light(colour: &mut [u8], n: u16) -> usize
 
 fn blacken(colour: &mut [u8], i: usize)
     requires { ⌜ i < length (now colour) ⌝ }
-    ensures { λ _. ⌜ now (colour .exit) ≡ set (now (colour .entry)) i 2 ⌝ }
+    ensures { λ _. ⌜ is colour ≡ set (was colour) i 2 ⌝ }
 {
     colour[i] = 2;
 }
@@ -165,8 +183,15 @@ struct Lit {
 
 // Shades e and f, and makes i, which is gray, black.
 fn spread(colour: &mut [u8], i: usize, e: u16, f: u16) -> Lit
-    requires { ⌜ (i < length (now colour)) × ((e < length (now colour)) × ((f < length (now colour)) × (getD (now colour) i 0 ≡ 1))) ⌝ }
-    ensures { λ r. ⌜ (r .more ≤ 2) × (((m : ℕ) → e < m → f < m → r .node < m) × ((now (colour .exit) ≡ set (shadeIn (shadeIn (now (colour .entry)) e) f) i 2) × (stirs (now (colour .exit)) 0 (length (now (colour .exit))) + 1 ≤ stirs (now (colour .entry)) 0 (length (now (colour .entry))) + r .more))) ⌝ }
+    requires { ⌜ i < length (now colour) ⌝ }
+    requires { ⌜ e < length (now colour) ⌝ }
+    requires { ⌜ f < length (now colour) ⌝ }
+    requires { ⌜ getD (now colour) i 0 ≡ 1 ⌝ }
+    ensures { λ r. ⌜ (r .more ≤ 2) × (((m : ℕ) → e < m → f < m
+        → r .node < m) × ((is colour
+        ≡ set (shadeIn (shadeIn (was colour) e) f) i 2) ×
+        (stirs (is colour) 0 (length (is colour)) + 1 ≤ stirs (was colour) 0
+        (length (was colour)) + r .more))) ⌝ }
 {
     let a = light(colour, e);
     let b = light(colour, f);
@@ -179,8 +204,10 @@ fn spread(colour: &mut [u8], i: usize, e: u16, f: u16) -> Lit
 
 // The four steps at a gray node.
 fn visit(left: &[u16], right: &[u16], colour: &mut [u8], x: Record, cap: usize, s: Spot) -> Spot
-    requires { ⌜ (Known (now left) (now right) (now colour) x cap s) × ((Room x cap) × (Ripe (now left) (now right) (now colour) x cap s)) ⌝ }
-    ensures { λ r. ⌜ Goes (now (left .entry)) (now (right .entry)) (now (colour .entry)) x cap s (now (colour .exit)) r ⌝ }
+    requires { ⌜ Known (now left) (now right) (now colour) x cap s ⌝ }
+    requires { ⌜ Room x cap ⌝ }
+    requires { ⌜ Ripe (now left) (now right) (now colour) x cap s ⌝ }
+    ensures { λ r. ⌜ Goes (was left) (was right) (was colour) x cap s (is colour) r ⌝ }
 {
     let i = s.i;
     let lit = spread(colour, i, left[i], right[i]);
@@ -196,8 +223,9 @@ fn visit(left: &[u16], right: &[u16], colour: &mut [u8], x: Record, cap: usize, 
 
 // The looks that find nothing, and then the visit of a gray node where one is there.
 fn turn(left: &[u16], right: &[u16], colour: &mut [u8], x: Record, cap: usize, s: Spot) -> Spot
-    requires { ⌜ (Known (now left) (now right) (now colour) x cap s) × (Room x cap) ⌝ }
-    ensures { λ r. ⌜ Goes (now (left .entry)) (now (right .entry)) (now (colour .entry)) x cap s (now (colour .exit)) r ⌝ }
+    requires { ⌜ Known (now left) (now right) (now colour) x cap s ⌝ }
+    requires { ⌜ Room x cap ⌝ }
+    ensures { λ r. ⌜ Goes (was left) (was right) (was colour) x cap s (is colour) r ⌝ }
 {
     let h = hop(left, right, colour, x, cap, s);
     if !ripe(left, right, colour, x, cap, h) {
@@ -215,8 +243,9 @@ fn marking(
     cap: usize,
     from: Spot,
 ) -> Spot
-    requires { ⌜ (Known (now left) (now right) (now colour) x cap from) × (Room x cap) ⌝ }
-    ensures { λ r. ⌜ Goes (now (left .entry)) (now (right .entry)) (now (colour .entry)) x cap from (now (colour .exit)) r ⌝ }
+    requires { ⌜ Known (now left) (now right) (now colour) x cap from ⌝ }
+    requires { ⌜ Room x cap ⌝ }
+    ensures { λ r. ⌜ Goes (was left) (was right) (was colour) x cap from (is colour) r ⌝ }
 {
     let mut s = from;
     while s.d < cap {
@@ -231,7 +260,8 @@ fn marking(
 
 // How many colours stop a look: counted where many steps are to be made, else the most that can be.
 fn stirring(colour: &[u8], cap: usize) -> usize
-    ensures { λ r. ⌜ (stirs (now (colour .entry)) 0 (length (now (colour .entry))) ≤ r) × (r ≤ length (now (colour .entry))) ⌝ }
+    ensures { λ r. ⌜ (stirs (was colour) 0 (length (was colour)) ≤ r)
+        × (r ≤ length (was colour)) ⌝ }
 {
     if cap < colour.len() {
         return colour.len();
@@ -249,8 +279,11 @@ pub fn scans(
     k: u16,
     cap: usize,
 ) -> Ahead
-    requires { ⌜ (Passes (state (now left) (now right) (now colour) x)) × ((Room x cap) × (x .phase ≡ Scan i k)) ⌝ }
-    ensures { λ r. ⌜ (r .d ≤ cap) × Leads (state (now (left .entry)) (now (right .entry)) (now (colour .entry)) x) (r .d) (state (now (left .entry)) (now (right .entry)) (now (colour .exit)) (r .rec)) ⌝ }
+    requires { ⌜ Passes (state (now left) (now right) (now colour) x) ⌝ }
+    requires { ⌜ Room x cap ⌝ }
+    requires { ⌜ x .phase ≡ Scan i k ⌝ }
+    ensures { λ r. ⌜ (r .d ≤ cap) × Leads (given left right colour x) (r .d)
+        (state (was left) (was right) (is colour) (r .rec)) ⌝ }
 {
     let from = Spot {
         i: i as usize,

@@ -37,8 +37,10 @@ module _ (s : State) (p : Place) (v : Walk) (go : ℕ → Outcome) (n : ℕ) whe
 
 -- a table that is known to be u's, with an answer and a record
 module _ (a : Answer) (x : Record) (l r c : List ℕ) (u : State) where
-  pub leaves : (y z : Record) → state l r c x ≡ u → y ≡ z → _≡_ {A = Outcome} (record { answer = a; state = state l r c y }) (did a u z)
+  pub leaves : (y z : Record) → state l r c x ≡ u → y ≡ z
+      → _≡_ {A = Outcome} (record { answer = a; state = state l r c y }) (did a u z)
   leaves y z e q = rw (← e, q)
 
-  pub leaves-shaded : (y : Record) (d : List ℕ) (n : ℕ) → state l r c x ≡ u → d ≡ shadeIn c n → _≡_ {A = Outcome} (record { answer = a; state = state l r d y }) (did a (shade u n) y)
+  pub leaves-shaded : (y : Record) (d : List ℕ) (n : ℕ) → state l r c x ≡ u → d ≡ shadeIn c n
+      → _≡_ {A = Outcome} (record { answer = a; state = state l r d y }) (did a (shade u n) y)
   leaves-shaded y d n e q = rw (← e, q)

@@ -10,6 +10,7 @@ ghost use Rattle.rules.specs.Table.{edgeOf};
 ghost use Rattle.rules.specs.Places.{turnsOk, placeCode, start, walkFrom};
 ghost use Rattle.rules.specs.Editor.{sideCode, owedCode};
 ghost use Rattle.places.specs.Stood.{stood};
+ghost use Rattle.base.specs.Lent.{was};
 
 fn turns_ok(p: Place) -> bool
     ensures { λ ok. ⌜ ok ≡ turnsOk 2 p ⌝ }
@@ -64,8 +65,10 @@ pub fn stood(w: Walk) -> u16
 
 // From node start, turn by turn, lowest bit first.
 pub fn walk_from(left: &[u16], right: &[u16], m: u16, start: u16, count: u32, word: u32) -> Walk
-    requires { ⌜ (start < m) × ((length (now left) ≡ m) × (length (now right) ≡ m)) ⌝ }
-    ensures { λ w. ⌜ w ≡ walkFrom 2 (edgeOf (now (left .entry) ∷ now (right .entry) ∷ [])) m count word start ⌝ }
+    requires { ⌜ start < m ⌝ }
+    requires { ⌜ length (now left) ≡ m ⌝ }
+    requires { ⌜ length (now right) ≡ m ⌝ }
+    ensures { λ w. ⌜ w ≡ walkFrom 2 (edgeOf (was left ∷ was right ∷ [])) m count word start ⌝ }
 {
     let mut n = start;
     let mut rest = word;
@@ -87,8 +90,12 @@ pub fn walk_from(left: &[u16], right: &[u16], m: u16, start: u16, count: u32, wo
 
 // The walk of a place, from its slot's node.
 pub fn walk(left: &[u16], right: &[u16], m: u16, p: Place) -> Walk
-    requires { ⌜ (start p < m) × ((m ≤ 4096) × ((length (now left) ≡ m) × (length (now right) ≡ m))) ⌝ }
-    ensures { λ w. ⌜ w ≡ walkFrom 2 (edgeOf (now (left .entry) ∷ now (right .entry) ∷ [])) m (p .count) (p .word) (start p) ⌝ }
+    requires { ⌜ start p < m ⌝ }
+    requires { ⌜ m ≤ 4096 ⌝ }
+    requires { ⌜ length (now left) ≡ m ⌝ }
+    requires { ⌜ length (now right) ≡ m ⌝ }
+    ensures { λ w. ⌜ w
+        ≡ walkFrom 2 (edgeOf (was left ∷ was right ∷ [])) m (p .count) (p .word) (start p) ⌝ }
 {
     walk_from(left, right, m, (p.slot + 2) as u16, p.count, p.word)
 }

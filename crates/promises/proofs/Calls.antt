@@ -1,8 +1,5 @@
 -- Demand 3 for the public calls in Rattle: Fresh starts a run, any other call is a run of steps.
-use mathlib.Core.Path.{_≡_, refl, ap}
-use mathlib.Core.List.{List}
-use Rattle.rules.specs.Table.{State}
-use Rattle.rules.specs.Fresh.{fresh}
+use mathlib.Core.Path.{refl, ap}
 use Rattle.rules.specs.Steps.{run}
 use Rattle.rules.specs.Schedules.{collects}
 use Rattle.rules.specs.declared.Record.{Record}

@@ -17,33 +17,47 @@ use Rattle.calls.proofs.step.Reads as step
 pub determined : {A : Type 0} {a b c : A} → a ≡ c → b ≡ c → a ≡ b
 determined p q = p ∙ sym q
 
-pub fresh-determined : (κs : _) (a : _) (r r′ : _) (s s′ : _) → fresh.Learnt κs a r s → fresh.Learnt κs a r′ s′
-    → outcome r (now (s .0)) (now (s .1 .0)) (now (s .1 .1 .0)) ≡ outcome r′ (now (s′ .0)) (now (s′ .1 .0)) (now (s′ .1 .1 .0))
+pub fresh-determined : (κs : _) (a : _) (r r′ : _) (s s′ : _) → fresh.Learnt κs a r s
+    → fresh.Learnt κs a r′ s′
+    → outcome r (now (s .0)) (now (s .1 .0)) (now (s .1 .1 .0))
+    ≡ outcome r′ (now (s′ .0)) (now (s′ .1 .0)) (now (s′ .1 .1 .0))
 fresh-determined κs a r r′ s s′ = determined
 
 -- Look lends no slice to be changed
-pub look-determined : (κs : _) (a : _) (r r′ : _) (s s′ : _) → look.Learnt κs a r s → look.Learnt κs a r′ s′
-    → outcome r (now (a .0)) (now (a .1 .0)) (now (a .1 .1 .0)) ≡ outcome r′ (now (a .0)) (now (a .1 .0)) (now (a .1 .1 .0))
+pub look-determined : (κs : _) (a : _) (r r′ : _) (s s′ : _) → look.Learnt κs a r s
+    → look.Learnt κs a r′ s′
+    → outcome r (now (a .0)) (now (a .1 .0)) (now (a .1 .1 .0))
+    ≡ outcome r′ (now (a .0)) (now (a .1 .0)) (now (a .1 .1 .0))
 look-determined κs a r r′ s s′ = determined
 
 -- nor Link the colours
-pub link-determined : (κs : _) (a : _) (r r′ : _) (s s′ : _) → link.Learnt κs a r s → link.Learnt κs a r′ s′
-    → outcome r (now (s .0)) (now (s .1 .0)) (now (a .1 .1 .0)) ≡ outcome r′ (now (s′ .0)) (now (s′ .1 .0)) (now (a .1 .1 .0))
+pub link-determined : (κs : _) (a : _) (r r′ : _) (s s′ : _) → link.Learnt κs a r s
+    → link.Learnt κs a r′ s′
+    → outcome r (now (s .0)) (now (s .1 .0)) (now (a .1 .1 .0))
+    ≡ outcome r′ (now (s′ .0)) (now (s′ .1 .0)) (now (a .1 .1 .0))
 link-determined κs a r r′ s s′ = determined
 
 -- nor Shade the edges
-pub shade-determined : (κs : _) (a : _) (r r′ : _) (s s′ : _) → shade.Learnt κs a r s → shade.Learnt κs a r′ s′
-    → outcome r (now (a .0)) (now (a .1 .0)) (now (s .1 .1 .0)) ≡ outcome r′ (now (a .0)) (now (a .1 .0)) (now (s′ .1 .1 .0))
+pub shade-determined : (κs : _) (a : _) (r r′ : _) (s s′ : _) → shade.Learnt κs a r s
+    → shade.Learnt κs a r′ s′
+    → outcome r (now (a .0)) (now (a .1 .0)) (now (s .1 .1 .0))
+    ≡ outcome r′ (now (a .0)) (now (a .1 .0)) (now (s′ .1 .1 .0))
 shade-determined κs a r r′ s s′ = determined
 
-pub take-determined : (κs : _) (a : _) (r r′ : _) (s s′ : _) → take.Learnt κs a r s → take.Learnt κs a r′ s′
-    → outcome r (now (s .0)) (now (s .1 .0)) (now (s .1 .1 .0)) ≡ outcome r′ (now (s′ .0)) (now (s′ .1 .0)) (now (s′ .1 .1 .0))
+pub take-determined : (κs : _) (a : _) (r r′ : _) (s s′ : _) → take.Learnt κs a r s
+    → take.Learnt κs a r′ s′
+    → outcome r (now (s .0)) (now (s .1 .0)) (now (s .1 .1 .0))
+    ≡ outcome r′ (now (s′ .0)) (now (s′ .1 .0)) (now (s′ .1 .1 .0))
 take-determined κs a r r′ s s′ = determined
 
-pub collect-determined : (κs : _) (a : _) (r r′ : _) (s s′ : _) → collect.Learnt κs a r s → collect.Learnt κs a r′ s′
-    → outcome r (now (s .0)) (now (s .1 .0)) (now (s .1 .1 .0)) ≡ outcome r′ (now (s′ .0)) (now (s′ .1 .0)) (now (s′ .1 .1 .0))
+pub collect-determined : (κs : _) (a : _) (r r′ : _) (s s′ : _) → collect.Learnt κs a r s
+    → collect.Learnt κs a r′ s′
+    → outcome r (now (s .0)) (now (s .1 .0)) (now (s .1 .1 .0))
+    ≡ outcome r′ (now (s′ .0)) (now (s′ .1 .0)) (now (s′ .1 .1 .0))
 collect-determined κs a r r′ s s′ = determined
 
-pub step-determined : (κs : _) (a : _) (r r′ : _) (s s′ : _) → step.Learnt κs a r s → step.Learnt κs a r′ s′
-    → outcome r (now (s .0)) (now (s .1 .0)) (now (s .1 .1 .0)) ≡ outcome r′ (now (s′ .0)) (now (s′ .1 .0)) (now (s′ .1 .1 .0))
+pub step-determined : (κs : _) (a : _) (r r′ : _) (s s′ : _) → step.Learnt κs a r s
+    → step.Learnt κs a r′ s′
+    → outcome r (now (s .0)) (now (s .1 .0)) (now (s .1 .1 .0))
+    ≡ outcome r′ (now (s′ .0)) (now (s′ .1 .0)) (now (s′ .1 .1 .0))
 step-determined κs a r r′ s s′ = determined

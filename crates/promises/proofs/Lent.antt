@@ -1,5 +1,6 @@
--- The two forms that are lent structs: what they promise determines the outcome, and what they leave.
--- The check makes no `Learnt` of such a function: here it is read off the generated contract, by the library's own reading.
+-- The two forms that are lent structs: what they promise determines the outcome, and what they
+-- leave. The check makes no `Learnt` of such a function: here it is read off the generated
+-- contract, by the library's own reading.
 use mathlib.Core.Path.{_≡_, refl}
 use base.Logic.{emp}
 use contract.Lifetimes.{Lfts}
@@ -17,26 +18,34 @@ use Rattle.promises.specs.Calls.{CollectInPlace, Schedule, left-by, ratt
 use Rattle.promises.proofs.Determined.{determined}
 use Rattle.promises.proofs.Covered.{lent-by, lent-by-run}
 
--- what a caller learns of a call: κs the lifetimes, a the arguments, r what it hands back, s what is lent as the call leaves it
-abbrev pub FrameLearnt : (κs : Lfts 4) → ArgsD frame.signature κs → ResD frame.signature κs → AtExit frame.ended κs → Type 0
+-- what a caller learns of a call: κs the lifetimes, a the arguments, r what it hands back, s what
+-- is lent as the call leaves it
+abbrev pub FrameLearnt : (κs : Lfts 4) → ArgsD frame.signature κs → ResD frame.signature κs
+    → AtExit frame.ended κs → Type 0
 FrameLearnt κs a r s =
     AllOf (all-models {Base = λ w. emp (w .𝓤)} {Know = no-know}
     (λ w. frame.clauses (w .𝓤) (w .H) (w .𝓖 .A) (w .𝓜 .mem) (w .𝓡 .run) κs a .ensures tt r s)
     (λ w. r-last _) (λ w. refl) (λ w. refl) (λ w. refl) .tells)
 
-abbrev pub ScheduleLearnt : (κs : Lfts 4) → ArgsD sched.signature κs → ResD sched.signature κs → AtExit sched.ended κs → Type 0
+abbrev pub ScheduleLearnt : (κs : Lfts 4) → ArgsD sched.signature κs → ResD sched.signature κs
+    → AtExit sched.ended κs → Type 0
 ScheduleLearnt κs a r s =
     AllOf (all-models {Base = λ w. emp (w .𝓤)} {Know = no-know}
     (λ w. sched.clauses (w .𝓤) (w .H) (w .𝓖 .A) (w .𝓜 .mem) (w .𝓡 .run) κs a .ensures tt r s)
     (λ w. r-last _) (λ w. refl) (λ w. refl) (λ w. refl) .tells)
 
-pub collect-in-place-determined : (κs : _) (a : _) (r r′ : _) (s s′ : _) → FrameLearnt κs a r s → FrameLearnt κs a r′ s′
-    → outcome (record { answer = r; rec = now (s .1 .1 .1 .0) }) (now (s .0)) (now (s .1 .0)) (now (s .1 .1 .0))
-    ≡ outcome (record { answer = r′; rec = now (s′ .1 .1 .1 .0) }) (now (s′ .0)) (now (s′ .1 .0)) (now (s′ .1 .1 .0))
+pub collect-in-place-determined : (κs : _) (a : _) (r r′ : _) (s s′ : _) → FrameLearnt κs a r s
+    → FrameLearnt κs a r′ s′
+    → outcome (record { answer = r; rec = now (s .1 .1 .1 .0) }) (now (s .0)) (now (s .1 .0))
+    (now (s .1 .1 .0))
+    ≡ outcome (record { answer = r′; rec = now (s′ .1 .1 .1 .0) }) (now (s′ .0)) (now (s′ .1 .0))
+    (now (s′ .1 .1 .0))
 collect-in-place-determined κs a r r′ s s′ = determined
 
-pub schedule-determined : (κs : _) (a : _) (r r′ : _) (s s′ : _) → ScheduleLearnt κs a r s → ScheduleLearnt κs a r′ s′
-    → ran r (now (s .1 .0)) (now (s .1 .1 .0)) (now (s .1 .1 .1 .0)) ≡ ran r′ (now (s′ .1 .0)) (now (s′ .1 .1 .0)) (now (s′ .1 .1 .1 .0))
+pub schedule-determined : (κs : _) (a : _) (r r′ : _) (s s′ : _) → ScheduleLearnt κs a r s
+    → ScheduleLearnt κs a r′ s′
+    → ran r (now (s .1 .0)) (now (s .1 .1 .0)) (now (s .1 .1 .1 .0))
+    ≡ ran r′ (now (s′ .1 .0)) (now (s′ .1 .1 .0)) (now (s′ .1 .1 .1 .0))
 schedule-determined κs a r r′ s s′ = determined
 
 -- what each leaves is what specs/Calls.antt says of it

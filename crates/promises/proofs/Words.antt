@@ -18,7 +18,7 @@ use Rattle.rules.specs.declared.Phase.the-variants.{Roots, Scan, Left, Right, B
 use Rattle.rules.specs.declared.Owed.{Owed}
 use Rattle.rules.specs.declared.Owed.the-variants.{Nothing, Node}
 use Rattle.rules.proofs.Good.{good, inside, owable}
-use Rattle.words.specs.Words.{kOf, owedOf, wordsOf, recordOf, isRecord}
+use Rattle.words.specs.Words.{kOf, owedOf, wordsOf, isRecord}
 use Rattle.words.proofs.RoundTrip.{record-back}
 use Rattle.words.proofs.Widths.{words-are}
 use Rattle.jenturik_c.specs.Face.{face}

@@ -9,7 +9,8 @@ use lib.Dec.{ltb, leb, eqb}
 use borrow.Author.Tests.{ltb-true, leb-true}
 use Rattle.base.specs.Choice.{every, pick}
 use Rattle.base.proofs.Tests.{each, facts, tests}
-use Rattle.rules.specs.Check.{sizeOk, phaseOk, owedOk, lastOk, bound, cycleOk, toldOk, countsOk, recordOk, checkOf}
+use Rattle.rules.specs.Check.{sizeOk, phaseOk, owedOk, lastOk, bound, cycleOk, toldOk}
+use Rattle.rules.specs.Check.{countsOk, recordOk, checkOf}
 use Rattle.rules.specs.Facts.{Good, Tells, Inside, Owable}
 use Rattle.rules.specs.declared.Record.{Record}
 use Rattle.rules.specs.declared.Phase.{Phase}
@@ -25,7 +26,8 @@ both true true e = (refl, refl)
 both true false e = absurd (omega arith)
 both false k e = absurd (omega arith)
 
-pub passes : (ls : List ℕ) (cl : ℕ) (x : Record) → 0 ≡ checkOf ls cl x → (true ≡ sizeOk (x .m) (x .r) ls cl) × (true ≡ recordOk (length ls) x)
+pub passes : (ls : List ℕ) (cl : ℕ) (x : Record) → 0 ≡ checkOf ls cl x
+    → (true ≡ sizeOk (x .m) (x .r) ls cl) × (true ≡ recordOk (length ls) x)
 unfolding checkOf
 passes ls cl x e = both _ _ e
 
@@ -33,7 +35,8 @@ last-of : (m r n : ℕ) → lastOk m r n ≡ true → 3 ≤ m → (1 ≤ n) × (
 unfolding lastOk
 last-of m r n e q = go (eqb n 1) refl e
   where
-    go : (b : Bool) → eqb n 1 ≡ b → b || every (leb (r + 2) n ∷ ltb n m ∷ []) ≡ true → (1 ≤ n) × (n < m)
+    go : (b : Bool) → eqb n 1 ≡ b → b || every (leb (r + 2) n ∷ ltb n m ∷ []) ≡ true
+        → (1 ≤ n) × (n < m)
     go true h k = omega facts
     go false h k = let f = each _ (sym k) in omega facts
 
@@ -71,7 +74,8 @@ good ll rl cl x e =
     let l = last-of (x .m) (x .r) (x .last) (k .1 .1 .0) (omega facts) in
     omega facts
 
-pub inside : (ls : List ℕ) (cl : ℕ) (x : Record) → 0 ≡ checkOf ls cl x → Inside (x .m) (x .r) (x .phase)
+pub inside : (ls : List ℕ) (cl : ℕ) (x : Record) → 0 ≡ checkOf ls cl x
+    → Inside (x .m) (x .r) (x .phase)
 unfolding recordOk
 inside ls cl x e = inside-of _ _ _ (each _ (passes ls cl x e .1) .0)
 

@@ -20,18 +20,23 @@ pub slot-below : (E r : ℕ) (p : Place) → 0 ≡ placeCode E r p → p .slot <
 unfolding placeCode pick
 slot-below E r p e = go (ltb (p .slot) r) refl e
   where
-    go : (b : Bool) → ltb (p .slot) r ≡ b → _≡_ {A = ℕ} 0 (pick b (pick (turnsOk E p) 0 4) 3) → p .slot < r
+    go : (b : Bool) → ltb (p .slot) r ≡ b → _≡_ {A = ℕ} 0 (pick b (pick (turnsOk E p) 0 4) 3)
+        → p .slot < r
     go true q h = ltb-true _ _ q
     go false q h = absurd (omega arith)
 
 pub side-below : (E side : ℕ) → 0 ≡ sideCode E side → side < E
 unfolding sideCode
-side-below E side = split (λ (n : ℕ). 0 ≡ n → side < E) _ _ _ (λ a e. ltb-true side E a) (λ a e. absurd (omega arith))
+side-below E side =
+    split (λ (n : ℕ). 0 ≡ n → side < E) _ _ _ (λ a e. ltb-true side E a)
+    (λ a e. absurd (omega arith))
 
 module _ (b : ℕ) (edges : ℕ → ℕ → ℕ) (m : ℕ) where
   -- one turn
   pub turn : (k w n : ℕ) → 0 < k
-      → walkFrom b edges m k w n ≡ pick (eqb n 0) (At 0) (pick (badEdge m (edges (w % b) n)) (Damaged n) (walkFrom b edges m (k - 1) (w / b) (edges (w % b) n)))
+      → walkFrom b edges m k w n ≡ pick (eqb n 0) (At 0)
+      (pick (badEdge m (edges (w % b) n)) (Damaged n)
+      (walkFrom b edges m (k - 1) (w / b) (edges (w % b) n)))
   unfolding walkFrom
   turn zero w n h = absurd (omega arith)
   turn (suc k) w n h = rw sub-one
@@ -53,11 +58,13 @@ below b edges m (suc k) w n h =
     split (Below m) _ _ _ (λ q. h) (λ q. below b edges m k _ _ (fine-edge m _ (sym q))))
 
 -- where a walk arrives
-pub at-below : (b : ℕ) (edges : ℕ → ℕ → ℕ) (m k w n t : ℕ) (v : Walk) → v ≡ walkFrom b edges m k w n → v ≡ At t → n < m → t < m
+pub at-below : (b : ℕ) (edges : ℕ → ℕ → ℕ) (m k w n t : ℕ) (v : Walk) → v ≡ walkFrom b edges m k w n
+    → v ≡ At t → n < m → t < m
 at-below b edges m k w n t v e q h = subst (Below m) (sym e ∙ q) (below b edges m k w n h)
 
 -- a bit is a side of a table of two edges
 pub two-sides : (k w : ℕ) → true ≡ sidesOk 2 k w
 unfolding sidesOk
 two-sides zero w = refl
-two-sides (suc k) w = every-skip _ _ _ (lt-yes (w % 2) 2 (omega arith)) (every-last _ _ (two-sides k (w / 2)))
+two-sides (suc k) w = every-skip _ _ _ (lt-yes (w % 2) 2 (omega arith))
+    (every-last _ _ (two-sides k (w / 2)))

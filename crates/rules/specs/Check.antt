@@ -16,7 +16,8 @@ use Rattle.rules.specs.declared.Owed.the-variants.{Nothing, Node}
 -- the edges, and the colours'.
 unfoldable pub sizeOk : ℕ → ℕ → List ℕ → ℕ → Bool
 sizeOk m r edges colours =
-    every (leb 3 m ∷ leb m 4096 ∷ leb 1 r ∷ leb r 64 ∷ leb (r + 2) m ∷ (map (λ n. eqb n m) edges ++ (eqb colours m ∷ [])))
+    every (leb 3 m ∷ leb m 4096 ∷ leb 1 r ∷ leb r 64 ∷ leb (r + 2)
+    m ∷ (map (λ n. eqb n m) edges ++ (eqb colours m ∷ [])))
 
 -- [Record 3] the position of the phase
 unfoldable pub phaseOk : ℕ → ℕ → Phase → Bool
@@ -53,11 +54,13 @@ countsOk x b = every (cycleOk x b ∷ toldOk x b ∷ [])
 
 unfoldable pub recordOk : ℕ → Record → Bool
 recordOk E x =
-    every (phaseOk (x .m) (x .r) (x .phase) ∷ owedOk (x .m) (x .owed) ∷ lastOk (x .m) (x .r) (x .last) ∷ countsOk x (bound E (x .m) (x .r)) ∷ [])
+    every (phaseOk (x .m) (x .r) (x .phase) ∷ owedOk (x .m) (x .owed) ∷ lastOk (x .m) (x .r)
+    (x .last) ∷ countsOk x (bound E (x .m) (x .r)) ∷ [])
 
 -- codes 1 and 2, for slices of these lengths
 unfoldable pub checkOf : List ℕ → ℕ → Record → ℕ
-checkOf edges colours x = pick (sizeOk (x .m) (x .r) edges colours) (pick (recordOk (length edges) x) 0 2) 1
+checkOf edges colours x =
+    pick (sizeOk (x .m) (x .r) edges colours) (pick (recordOk (length edges) x) 0 2) 1
 
 abbrev pub check : State → ℕ
 check s = checkOf (map length (s .edges)) (length (s .colour)) (s .rec)

@@ -4,12 +4,15 @@ use Rattle.base.specs.Choice.{pick}
 use Prim.Native.Nat.{ℕ, _+_, _-_}
 use mathlib.Core.Bool.{_||_}
 use lib.Dec.{eqb}
-use Rattle.rules.specs.Table.{State, Outcome, did, refuse, unless, white, gray, black, isRoot, left, right, edge, withEdge, cleared, colourOf, withColour, shade, badEdge, badColour}
+use Rattle.rules.specs.Table.{State, Outcome, did, refuse, unless, white, gray, black, isRoot}
+use Rattle.rules.specs.Table.{left, right, edge, withEdge, cleared, colourOf, withColour}
+use Rattle.rules.specs.Table.{shade, badEdge, badColour}
 use Rattle.rules.specs.Records.{withLast, moved, marked, next, rescan, afterAppend}
 use Rattle.rules.specs.Check.{check}
 use Rattle.rules.specs.declared.Phase.{Phase}
 use Rattle.rules.specs.declared.Phase.the-variants.{Roots, Scan, Left, Right, Black, Append}
-use Rattle.rules.specs.declared.Answer.the-variants.{Shaded, Looked, Blackened, Whitened, Appended}
+use Rattle.rules.specs.declared.Answer.the-variants.{Shaded, Looked, Blackened, Whitened}
+use Rattle.rules.specs.declared.Answer.the-variants.{Appended}
 
 -- shades node n, and goes on to a phase
 unfoldable pub shadeStep : State → ℕ → Phase → Outcome
@@ -53,7 +56,8 @@ appendWhite s i =
 -- is bad [Damage 4]
 unfoldable pub appendStep : State → ℕ → Outcome
 appendStep s i =
-    pick (eqb (colourOf s i) black) (did (Whitened i) (withColour s i white) (afterAppend (s .rec) i))
+    pick (eqb (colourOf s i) black) (did (Whitened i) (withColour s i white)
+    (afterAppend (s .rec) i))
     (pick (eqb (colourOf s i) white) (appendWhite s i) (refuse s 7 i))
 
 -- [Collector 1] one step, that of the phase: [Roots 1] Roots, [Edges 1] Left, [Edges 2] Right.

@@ -7,7 +7,8 @@ use Prim.Native.Nat.{ℕ, _+_}
 use mathlib.Core.Bool.{Bool, _||_}
 use mathlib.Core.List.{[], _∷_}
 use lib.Dec.{ltb, leb, eqb}
-use Rattle.rules.specs.Table.{State, sides, Outcome, did, refuse, unless, NIL, FREE, left, edge, withEdge, shade, badColour}
+use Rattle.rules.specs.Table.{State, sides, Outcome, did, refuse, unless, NIL, FREE, left}
+use Rattle.rules.specs.Table.{edge, withEdge, shade, badColour}
 use Rattle.rules.specs.Records.{owing, paid, withLast}
 use Rattle.rules.specs.Check.{check}
 use Rattle.rules.specs.Places.{placeCode, walk, arrive}
@@ -39,12 +40,15 @@ depart s p go = arrive s (walk s p) (λ n. pick (eqb n NIL) (refuse s 8 0) (go n
 -- which is answered; [Link 3] the target may be any node, [Link 6] and no colour or old edge is
 -- read
 unfoldable pub linkTo : State → ℕ → Place → ℕ → Outcome
-linkTo s side q n = arrive s (walk s q) (λ t. did (Linked t) (withEdge s side n t) (owing (s .rec) t))
+linkTo s side q n =
+    arrive s (walk s q) (λ t. did (Linked t) (withEdge s side n t) (owing (s .rec) t))
 
 -- [Link 4] both walks are in s, before the edge is written
 unfoldable pub link : Place → ℕ → Place → State → Outcome
 link p side q s =
-    unless (first (check s ∷ sideCode (sides s) side ∷ placeCode (sides s) (s .rec .r) p ∷ placeCode (sides s) (s .rec .r) q ∷ owedCode (s .rec .owed) ∷ [])) s
+    unless
+    (first (check s ∷ sideCode (sides s) side ∷ placeCode (sides s) (s .rec .r) p ∷ placeCode
+    (sides s) (s .rec .r) q ∷ owedCode (s .rec .owed) ∷ [])) s
     (depart s p (linkTo s side q))
 
 -- [Shade 1] the node owed is shaded and answered, [Shade 2] and nothing is owed; [Codes 6] else
@@ -92,5 +96,7 @@ takeFirst s side f n =
 -- [Take 1] from a place, on a side
 unfoldable pub take : Place → ℕ → State → Outcome
 take p side s =
-    unless (first (check s ∷ sideCode (sides s) side ∷ placeCode (sides s) (s .rec .r) p ∷ owedCode (s .rec .owed) ∷ [])) s
+    unless
+    (first (check s ∷ sideCode (sides s) side ∷ placeCode (sides s) (s .rec .r) p ∷ owedCode
+    (s .rec .owed) ∷ [])) s
     (depart s p (takeFirst s side (edge s left FREE)))

@@ -1,4 +1,5 @@
--- What codes 1 and 2 being 0 tells, as plain facts: what the inner functions rely on. No promise rests on this file.
+-- What codes 1 and 2 being 0 tells, as plain facts: what the inner functions rely on. No promise
+-- rests on this file.
 use Prim.Native.Nat.{ℕ, _+_, _≤_, _<_}
 use mathlib.Core.Path.{_≡_}
 use Rattle.rules.specs.declared.Record.{Record}

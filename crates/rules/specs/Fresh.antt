@@ -36,7 +36,8 @@ freshLast m r = pick (ltb (r + 2) m) (m - 1) FREE
 
 unfoldable pub freshState : ℕ → ℕ → ℕ → State
 freshState E m r =
-    table (tabulate (freshLeft m r) m ∷ replicate (E - 1) (tabulate noEdge m)) (tabulate allWhite m) (freshRecord m r (freshLast m r))
+    table (tabulate (freshLeft m r) m ∷ replicate (E - 1) (tabulate noEdge m)) (tabulate allWhite m)
+    (freshRecord m r (freshLast m r))
 
 -- [Fresh 1] whatever the lists held; [Fresh 6] answers last; [Fresh 7] [Fresh 8] or is refused
 unfoldable pub fresh : ℕ → ℕ → List (List ℕ) → List ℕ → Outcome

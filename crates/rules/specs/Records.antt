@@ -34,7 +34,8 @@ freshRecord m r last =
       inuse = 0;
     }
 
--- x with these in place of its own; all that follows is made by it. M and R stay as Fresh made them.
+-- x with these in place of its own; all that follows is made by it. M and R stay as Fresh made
+-- them.
 abbrev pub remade : Record → Phase → Owed → ℕ → ℕ → ℕ → ℕ → ℕ → ℕ → Record
 remade x phase owed last steps cycles took blackened inuse =
     record {

@@ -27,7 +27,8 @@ ran d l r c = followed (d .done) (d .code) (state l r c (d .rec))
 unfoldable pub follow : List Step → ℕ → State → Followed
 follow [] n s = followed n 0 s
 follow (a ∷ rest) n s =
-    pick (eqb (codeOf (step a s .answer)) 0) (follow rest (n + 1) (step a s .state)) (followed n (codeOf (step a s .answer)) s)
+    pick (eqb (codeOf (step a s .answer)) 0) (follow rest (n + 1) (step a s .state))
+    (followed n (codeOf (step a s .answer)) s)
 
 -- [Schedules 4] codes 1 and 2 first, for no steps too
 unfoldable pub schedule : List Step → State → Followed

@@ -10,7 +10,9 @@ use Rattle.rules.specs.Collector.{collect}
 use Rattle.rules.specs.declared.Place.{Place}
 use Rattle.rules.specs.declared.Step.{Step}
 use Rattle.rules.specs.declared.Answer.{Answer}
-use Rattle.rules.specs.declared.Answer.the-variants.{Started, Named, Linked, Taken, Shaded, Looked, Blackened, Whitened, Appended, Refused}
+use Rattle.rules.specs.declared.Answer.the-variants.{Started, Named, Linked, Taken, Shaded}
+use Rattle.rules.specs.declared.Answer.the-variants.{Looked, Blackened, Whitened, Appended}
+use Rattle.rules.specs.declared.Answer.the-variants.{Refused}
 
 -- [Steps 1] the source place, and the target's
 abbrev pub source : Step → Place
@@ -39,7 +41,17 @@ run (a ∷ rest) s = run rest (step a s .state)
 -- the step that each call makes
 abbrev pub stepOf : ℕ → Place → ℕ → Place → Step
 stepOf kind p side q =
-    record { kind = kind; slot = p .slot; count = p .count; word = p .word; side = side; toslot = q .slot; tocount = q .count; toword = q .word }
+    record {
+      kind =
+          kind;
+      slot = p .slot;
+      count = p .count;
+      word = p .word;
+      side = side;
+      toslot = q .slot;
+      tocount = q .count;
+      toword = q .word;
+    }
 
 -- [Steps 3] numbers that a kind does not need
 abbrev pub unread : Place

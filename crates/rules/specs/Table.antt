@@ -91,7 +91,8 @@ edge s side n = edgeOf (s .edges) side n
 
 -- the edge of node n on a side now points to t
 unfoldable pub withEdge : State → ℕ → ℕ → ℕ → State
-withEdge s side n t = table (set (s .edges) side (set (getD (s .edges) side []) n t)) (s .colour) (s .rec)
+withEdge s side n t =
+    table (set (s .edges) side (set (getD (s .edges) side []) n t)) (s .colour) (s .rec)
 
 -- every edge of node n is 0 now
 unfoldable pub cleared : State → ℕ → State

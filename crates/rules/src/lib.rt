@@ -4,8 +4,11 @@
 ghost use mathlib.Core.Path.{_≡_};
 ghost use mathlib.Core.List.{[], _∷_};
 ghost use Prim.Native.Nat.{_+_, _*_, _<_, _≤_};
-ghost use Rattle.rules.specs.Records.{position, freshRecord, withPhase, withOwed, withLast, owing, paid, moved, marked, rescan, oneMore, closed, afterAppend};
-ghost use Rattle.rules.specs.Check.{sizeOk, phaseOk, owedOk, lastOk, bound, cycleOk, toldOk, countsOk, recordOk, checkOf};
+ghost use Rattle.rules.specs.Records.{position, freshRecord, withPhase, withOwed, withLast};
+ghost use Rattle.rules.specs.Records.{owing, paid, moved, marked, rescan, oneMore, closed};
+ghost use Rattle.rules.specs.Records.{afterAppend};
+ghost use Rattle.rules.specs.Check.{sizeOk, phaseOk, owedOk, lastOk, bound, cycleOk, toldOk};
+ghost use Rattle.rules.specs.Check.{countsOk, recordOk, checkOf};
 ghost use Rattle.rules.specs.Steps.{codeOf, nodeOf};
 
 // Where the collector is: six cases, each with its own position.
@@ -172,7 +175,8 @@ fn last_ok(m: u16, r: u16, n: u16) -> bool
 
 // B, the most steps that a cycle may take.
 pub fn bound(m: u16, r: u16) -> u32
-    requires { ⌜ (m ≤ 4096) × (r ≤ 64) ⌝ }
+    requires { ⌜ m ≤ 4096 ⌝ }
+    requires { ⌜ r ≤ 64 ⌝ }
     ensures { λ b. ⌜ b ≡ bound 2 m r ⌝ }
 {
     let n = m as u32;
@@ -209,7 +213,8 @@ fn counts_ok(x: Record, b: u32) -> bool
 }
 
 fn record_ok(x: Record) -> bool
-    requires { ⌜ (x .m ≤ 4096) × (x .r ≤ 64) ⌝ }
+    requires { ⌜ x .m ≤ 4096 ⌝ }
+    requires { ⌜ x .r ≤ 64 ⌝ }
     ensures { λ ok. ⌜ ok ≡ recordOk 2 x ⌝ }
 {
     let phase = x.phase;
@@ -355,7 +360,10 @@ impl Record {
 
     // The step that blackens node i: the scan begins again behind it.
     pub fn rescan(mut self, i: u16) -> Record
-        requires { ⌜ (self .steps < 20000000) × ((self .blackened ≤ 4096) × ((i < 4096) × (0 < self .m))) ⌝ }
+        requires { ⌜ self .steps < 20000000 ⌝ }
+        requires { ⌜ self .blackened ≤ 4096 ⌝ }
+        requires { ⌜ i < 4096 ⌝ }
+        requires { ⌜ 0 < self .m ⌝ }
         ensures { λ r. ⌜ r ≡ rescan self i ⌝ }
     {
         self.blackened = self.blackened + 1;
@@ -376,7 +384,8 @@ impl Record {
 
     // After Append i.
     pub fn after_append(self, i: u16) -> Record
-        requires { ⌜ (self .steps < 20000000) × (i < 4096) ⌝ }
+        requires { ⌜ self .steps < 20000000 ⌝ }
+        requires { ⌜ i < 4096 ⌝ }
         ensures { λ r. ⌜ r ≡ afterAppend self i ⌝ }
     {
         if i + 1 == self.m {

@@ -1,5 +1,5 @@
--- Any step from a sound state is one of three: a collector step after which the cycle goes on, one that completes it, or an editor's.
--- It leaves a sound state.
+-- Any step from a sound state is one of three: a collector step after which the cycle goes on, one
+-- that completes it, or an editor's. It leaves a sound state.
 use Prim.Native.Nat.{ℕ}
 use mathlib.Core.Bool.{Bool, true, false}
 use mathlib.Core.Path.{_≡_, refl, sym, ap}
@@ -16,7 +16,8 @@ use Rattle.rules.specs.declared.Step.{Step}
 use Rattle.theory.proofs.Steps as S
 use S.{Tick, goes, ends, CStep}
 use Rattle.theory.proofs.Keep.{keep-editor}
-use Rattle.runs.specs.Runs.{after, collector, kind, firstAppend, lastAppend, completes, marks, Count, going, closing, told}
+use Rattle.runs.specs.Runs.{after, collector, kind, firstAppend, lastAppend, completes, marks}
+use Rattle.runs.specs.Runs.{Count, going, closing, told}
 use Rattle.runs.specs.Demand.{Mild}
 use Rattle.runs.proofs.Picks.{if-no}
 use Rattle.runs.proofs.Codes.{mild, mild-first}
@@ -39,18 +40,26 @@ pub record Collected (E : ℕ) (c : Step) (s : State) (tk : Tick) : Type 0 where
   pub sound : Sound E (after c s)
 
 pub data Stepped (E : ℕ) (c : Step) (s : State) : Type 0 where
-  goes-on : completes c s ≡ false → counts (after c s .rec) ≡ going (told c s) (counts (s .rec)) → Collected E c s goes → Stepped E c s
-  closes : completes c s ≡ true → counts (after c s .rec) ≡ closing (counts (s .rec)) → Collected E c s ends → Stepped E c s
-  edits : completes c s ≡ false → collector c ≡ false → Edited E s (kind E (s .rec .phase)) (step c s) → Stepped E c s
+  goes-on : completes c s ≡ false → counts (after c s .rec) ≡ going (told c s) (counts (s .rec))
+      → Collected E c s goes → Stepped E c s
+  closes : completes c s ≡ true → counts (after c s .rec) ≡ closing (counts (s .rec))
+      → Collected E c s ends → Stepped E c s
+  edits : completes c s ≡ false → collector c ≡ false
+      → Edited E s (kind E (s .rec .phase)) (step c s) → Stepped E c s
 
 collects-is : (c : Step) (s : State) → collector c ≡ true → step c s ≡ collect s
 unfolding step pick
 collects-is c s h = rw (eqb-true (c .kind) 3 h) refl
 
-pub edits-is : {E : ℕ} (c : Step) (s : State) {ph : S.Phase} → Ready E s ph → collector c ≡ false → Edited E s ph (step c s)
+pub edits-is : {E : ℕ} (c : Step) (s : State) {ph : S.Phase} → Ready E s ph → collector c ≡ false
+    → Edited E s ph (step c s)
 unfolding step
-edits-is {E} c s {ph} g h = split (Edited E s ph) _ _ _ (λ a. take-edited g _ _) (λ a. split (Edited E s ph) _ _ _ (λ a. link-edited g _ _ _)
-    (λ a. split (Edited E s ph) _ _ _ (λ a. shade-edited g) (λ a. if-no (Edited E s ph) _ _ _ (sym h) (split (Edited E s ph) _ _ _ (λ a. look-edited g _)
+edits-is {E} c s {ph} g h =
+    split (Edited E s ph) _ _ _ (λ a. take-edited g _ _)
+    (λ a. split (Edited E s ph) _ _ _ (λ a. link-edited g _ _ _)
+    (λ a. split (Edited E s ph) _ _ _ (λ a. shade-edited g)
+    (λ a. if-no (Edited E s ph) _ _ _ (sym h)
+    (split (Edited E s ph) _ _ _ (λ a. look-edited g _)
     (λ a. refused (g .fits) _ 0 unreadable)))))
   where
     unreadable : Mild (first (check s ∷ 10 ∷ []))
@@ -66,8 +75,18 @@ stepped {E} c s g = go (collector c) refl
         k : Made E s (s .rec .phase) (step c s)
         k = rw (collects-is c s h) (collect-made g)
 
-        done : {t : Tick} → CStep E (s .rec .m) (top s) (abs E s) (abs E (after c s)) (act (step c s .answer)) t → Collected E c s t
-        done d = record { kind = h; made = d; code = k .code; named = k .named; nodes = k .nodes; slots = k .slots; sound = sound-made g k }
+        done : {t : Tick} → CStep E (s .rec .m) (top s) (abs E s) (abs E (after c s))
+            (act (step c s .answer)) t → Collected E c s t
+        done d = record {
+          kind =
+              h;
+          made = d;
+          code = k .code;
+          named = k .named;
+          nodes = k .nodes;
+          slots = k .slots;
+          sound = sound-made g k;
+        }
 
         test : (b : Bool) → lastAppend (s .rec .m) (kind E (s .rec .phase)) ≡ b → completes c s ≡ b
         test b e = rw (g .rows .count) (sym (every-skip _ _ _ (sym h) (every-last _ _ (sym e))))
@@ -75,18 +94,29 @@ stepped {E} c s g = go (collector c) refl
         marks-is : marks c s ≡ firstAppend (kind E (after c s .rec .phase))
         marks-is = rw (g .rows .count) (sym (every-skip _ _ _ (sym h) (every-last _ _ refl)))
 
-        by : {t : Tick} → CStep E (s .rec .m) (top s) (abs E s) (abs E (after c s)) (act (step c s .answer)) t
-            → Ticked (s .rec) (after c s .rec) (kind E (s .rec .phase)) (kind E (after c s .rec .phase)) (step c s .answer) t → Stepped E c s
+        by : {t : Tick} → CStep E (s .rec .m) (top s) (abs E s) (abs E (after c s))
+            (act (step c s .answer)) t
+            → Ticked (s .rec) (after c s .rec) (kind E (s .rec .phase))
+            (kind E (after c s .rec .phase)) (step c s .answer) t → Stepped E c s
         by d (on e a) = goes-on (test false e) (rw marks-is a) (done d)
         by d (over e a) = closes (test true e) a (done d)
     go false h = edits (sym (every-here _ _ (sym h))) h (edits-is c s (ready g) h)
 
-sound-edited : {E : ℕ} {s : State} {o : Outcome} → Sound E s → Edited E s (kind E (s .rec .phase)) o → Sound E (o .state)
+sound-edited : {E : ℕ} {s : State} {o : Outcome} → Sound E s → Edited E s (kind E (s .rec .phase)) o
+    → Sound E (o .state)
 sound-edited {E} {s} g e = record {
   rows = rw (e .same .m) (rows-kept (e .lengths) (g .rows));
   fits = e .fits;
   inv = rw (e .same .m, e .same .r) (keep-editor (sizes (g .fits)) (made-there e) (g .inv));
-  bill = rw (e .same .m, e .same .r, e .same .phase, ap (λ (n : Count). n .since) (e .same .counts), ap (λ (n : Count). n .blackened) (e .same .counts))
+  bill =
+      rw (
+        e .same .m,
+        e .same .r,
+        e .same .phase,
+        ap (λ (n : Count). n .since) (e .same .counts),
+        ap
+            (λ (n : Count). n .blackened) (e .same .counts),
+      )
       (bill-edit (sizes (g .fits)) (made-there e) (g .inv) refl (g .bill));
 }
 

@@ -1,5 +1,5 @@
--- The codes that a run may answer: whether a code is one of those that it may not is computed, so that
--- they stand in one list. What the editor's tests before the walk answer is none of them.
+-- The codes that a run may answer: whether a code is one of those that it may not is computed, so
+-- that they stand in one list. What the editor's tests before the walk answer is none of them.
 use Prim.Native.Nat.{ℕ}
 use mathlib.Core.Bool.{Bool, true, false, _||_, true≢false}
 use mathlib.Core.Path.{_≡_, refl, _∙_}
@@ -44,7 +44,8 @@ mild-first (c ∷ cs) h = split Mild _ _ _ (λ q. mild-first cs (h .1)) (λ q. h
 
 pub mild-place : (e r : ℕ) (p : Place) → Mild (placeCode e r p)
 unfolding placeCode
-mild-place e r p = split Mild _ _ _ (λ a. split Mild _ _ _ (λ b. mild refl) (λ b. mild refl)) (λ a. mild refl)
+mild-place e r p =
+    split Mild _ _ _ (λ a. split Mild _ _ _ (λ b. mild refl) (λ b. mild refl)) (λ a. mild refl)
 
 pub mild-side : (e side : ℕ) → Mild (sideCode e side)
 unfolding sideCode

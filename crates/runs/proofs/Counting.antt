@@ -1,5 +1,5 @@
--- The collector is a machine whose steps are the theory's: so its counts are those of the run, a cycle takes at most B collector steps,
--- and garbage is appended within 3 × B.
+-- The collector is a machine whose steps are the theory's: so its counts are those of the run, a
+-- cycle takes at most B collector steps, and garbage is appended within 3 × B.
 use Prim.Native.Nat.{ℕ, suc, _+_, _*_, _≤_, _<_}
 use mathlib.Core.Path.{_≡_, refl, sym, ap, _∙_, subst, subst₂}
 use mathlib.Core.List.{List, [], _∷_}
@@ -9,18 +9,21 @@ use Rattle.rules.specs.Check.{bound}
 use Rattle.rules.specs.Steps.{step, run}
 use Rattle.rules.specs.declared.Step.{Step}
 use Rattle.rules.specs.declared.Answer.{Answer}
-use Rattle.rules.specs.declared.Answer.the-variants.{Started, Named, Linked, Taken, Shaded, Looked, Blackened, Whitened, Appended, Refused}
+use Rattle.rules.specs.declared.Answer.the-variants.{Started, Named, Linked, Taken, Shaded, Looked}
+use Rattle.rules.specs.declared.Answer.the-variants.{Blackened, Whitened, Appended, Refused}
 use Rattle.theory.specs.Reach.{Garbage}
 use Rattle.theory.proofs.Steps.{appends, other, Tick, CStep, EStep}
 use Rattle.theory.proofs.Invariant.{Sizes, Inv}
-use Rattle.runs.specs.Runs.{Some, now, later, after, collectorSteps, Completes, Appends, Count, counted, told, count}
+use Rattle.runs.specs.Runs.{Some, now, later, after, collectorSteps, Completes, Appends}
+use Rattle.runs.specs.Runs.{Count, counted, told, count}
 use Rattle.runs.proofs.Sound.{abs, Sound, sizes, cycle-goes}
 use Rattle.runs.proofs.Made.{act, counts}
 use Rattle.runs.proofs.Edited.{made-there}
 use Rattle.runs.proofs.AnyStep as A
 use A.{Collected, stepped, sound-step}
 use Rattle.runs.proofs.Machine as M
-use M.{Machine, Stepped, goes-on, closes, edits, Runs, counted-on, counted-over, counted-not, carried-step, ends-soon, appended-soon}
+use M.{Machine, Stepped, goes-on, closes, edits, Runs, counted-on, counted-over, counted-not}
+use M.{carried-step, ends-soon, appended-soon}
 
 abbrev machine : ℕ → Machine State
 machine E = record {
@@ -47,7 +50,8 @@ is-appended x (Whitened n) q = absurd (other≢appends q)
 is-appended x (Appended n) q = let z : n ≡ x = cc in ap Appended z
 is-appended x (Refused code n) q = absurd (other≢appends q)
 
-some-appended : {x : ℕ} {cs : List Step} {s : State} → Some after (λ c s. act (step c s .answer) ≡ appends x) cs s → Appends x cs s
+some-appended : {x : ℕ} {cs : List Step} {s : State}
+    → Some after (λ c s. act (step c s .answer) ≡ appends x) cs s → Appends x cs s
 some-appended {x} (now {c = c} {s = s} q) = now (is-appended x (step c s .answer) q)
 some-appended (later k) = later (some-appended k)
 
@@ -57,7 +61,8 @@ record Held (E m r : ℕ) (s : State) : Type 0 where
   nodes : s .rec .m ≡ m
   slots : s .rec .r ≡ r
 
--- what is carried along a run: the state is sound, M and R are the start's, and the record's counts are those counted
+-- what is carried along a run: the state is sound, M and R are the start's, and the record's counts
+-- are those counted
 pub record Carried (E m r : ℕ) (n : Count) (s : State) : Type 0 where
   pub sound : Sound E s
   pub nodes : s .rec .m ≡ m
@@ -68,15 +73,21 @@ module _ {E m r : ℕ} where
   turn : (c : Step) (s : State) → Held E m r s → Stepped (machine E) E m (suc (suc r)) c s
   turn c s v = go (stepped c s (v .sound))
     where
-      there : {t : Tick} → Collected E c s t → CStep E m (suc (suc r)) (abs E s) (abs E (after c s)) (act (step c s .answer)) t
-      there {t} k = subst₂ (λ m r. CStep E m (suc (suc r)) (abs E s) (abs E (after c s)) (act (step c s .answer)) t) (v .nodes) (v .slots) (k .made)
+      there : {t : Tick} → Collected E c s t
+          → CStep E m (suc (suc r)) (abs E s) (abs E (after c s)) (act (step c s .answer)) t
+      there {t} k =
+          subst₂ (λ m r. CStep E m (suc (suc r)) (abs E s) (abs E (after c s))
+          (act (step c s .answer)) t) (v .nodes) (v .slots) (k .made)
 
       go : A.Stepped E c s → Stepped (machine E) E m (suc (suc r)) c s
       go (A.goes-on e a k) = goes-on (k .kind) e (there k)
       go (A.closes e a k) = closes (k .kind) e (there k)
-      go (A.edits e h k) = edits h e (subst (λ r. EStep E (suc (suc r)) (k .deed) (abs E s) (abs E (after c s))) (v .slots) (made-there k))
+      go (A.edits e h k) = edits h e (subst
+          (λ r. EStep E (suc (suc r)) (k .deed) (abs E s) (abs E (after c s))) (v .slots)
+          (made-there k))
 
-  tally : (c : Step) (s : State) → Held E m r s → counts (after c s .rec) ≡ counted (told c s) c (counts (s .rec))
+  tally : (c : Step) (s : State) → Held E m r s → counts (after c s .rec)
+      ≡ counted (told c s) c (counts (s .rec))
   tally c s v = go (stepped c s (v .sound))
     where
       go : A.Stepped E c s → counts (after c s .rec) ≡ counted (told c s) c (counts (s .rec))
@@ -85,7 +96,13 @@ module _ {E m r : ℕ} where
       go (A.edits e h k) = k .same .counts ∙ sym (counted-not _ c _ e h)
 
   held-step : (c : Step) (s : State) → Held E m r s → Held E m r (after c s)
-  held-step c s v = record { sound = sound-step c s (v .sound); nodes = go (stepped c s (v .sound)) .0; slots = go (stepped c s (v .sound)) .1 }
+  held-step c s v = record {
+    sound =
+        sound-step c s (v .sound);
+    nodes = go (stepped c s (v .sound)) .0;
+    slots = go
+        (stepped c s (v .sound)) .1;
+  }
     where
       go : A.Stepped E c s → (after c s .rec .m ≡ m) × (after c s .rec .r ≡ r)
       go (A.goes-on e a k) = (k .nodes ∙ v .nodes, k .slots ∙ v .slots)
@@ -95,8 +112,12 @@ module _ {E m r : ℕ} where
   runs : {s : State} → Held E m r s → Runs (machine E) E m (suc (suc r)) (bound E m r) (Held E m r)
   runs {s} h = record {
     sizes = subst₂ (λ m r. Sizes E m (suc (suc r))) (h .nodes) (h .slots) (sizes (h .sound .fits));
-    inv = λ s v. subst₂ (λ m r. Inv E m (suc (suc r)) (abs E s)) (v .nodes) (v .slots) (v .sound .inv);
-    below = λ s v. subst₂ (λ m r. s .rec .steps < bound E m r) (v .nodes) (v .slots) (cycle-goes (v .sound));
+    inv =
+        λ s v. subst₂ (λ m r. Inv E m (suc (suc r)) (abs E s)) (v .nodes) (v .slots)
+        (v .sound .inv);
+    below =
+        λ s v. subst₂ (λ m r. s .rec .steps < bound E m r) (v .nodes) (v .slots)
+        (cycle-goes (v .sound));
     stepped = turn;
     sound = held-step;
     counts = tally;
@@ -105,22 +126,38 @@ module _ {E m r : ℕ} where
   held : {n : Count} {s : State} → Carried E m r n s → Held E m r s
   held v = record { sound = v .sound; nodes = v .nodes; slots = v .slots }
 
-  pub carried-run : (cs : List Step) (s : State) (n : Count) → Carried E m r n s → Carried E m r (count cs s n) (run cs s)
+  pub carried-run : (cs : List Step) (s : State) (n : Count) → Carried E m r n s
+      → Carried E m r (count cs s n) (run cs s)
   unfolding run
   carried-run [] s n v = v
   carried-run (c ∷ cs) s n v =
       let k = carried-step (runs (held v)) c s n (record { sound = held v; counts = v .counts }) in
       carried-run cs (after c s) (counted (told c s) c n)
-      (record { sound = k .sound .sound; nodes = k .sound .nodes; slots = k .sound .slots; counts = k .counts })
+      (record {
+        sound = k .sound .sound;
+        nodes = k .sound .nodes;
+        slots = k .sound .slots;
+        counts =
+            k .counts;
+      })
 
-  pub ends-within : {n : Count} {s : State} → Carried E m r n s → (cs : List Step) → bound E m r ≤ n .since + collectorSteps cs → Completes cs s
-  ends-within {s = s} v cs l = ends-soon (runs (held v)) cs s (held v) (omega (arith, ap (λ (n : Count). n .since) (v .counts)))
+  pub ends-within : {n : Count} {s : State} → Carried E m r n s → (cs : List Step)
+      → bound E m r ≤ n .since + collectorSteps cs → Completes cs s
+  ends-within {s = s} v cs l =
+      ends-soon (runs (held v)) cs s (held v)
+      (omega (arith, ap (λ (n : Count). n .since) (v .counts)))
 
-  pub appended-within : {n : Count} {s : State} → Carried E m r n s → (x : ℕ) → x < m → Garbage E (suc (suc r)) (edge s) x → (cs : List Step)
+  pub appended-within : {n : Count} {s : State} → Carried E m r n s → (x : ℕ) → x < m
+      → Garbage E (suc (suc r)) (edge s) x → (cs : List Step)
       → 3 * bound E m r ≤ collectorSteps cs → Appends x cs s
-  appended-within {s = s} v x hx u cs l = some-appended (appended-soon (runs (held v)) x hx cs s (held v) u l)
+  appended-within {s = s} v x hx u cs l =
+      some-appended (appended-soon (runs (held v)) x hx cs s (held v) u l)
 
 -- a sound state stays so, with its M and R, whatever was counted before
-pub carried-from : {E : ℕ} (cs : List Step) (s : State) → Sound E s → (n : Count) × Carried E (s .rec .m) (s .rec .r) n (run cs s)
-carried-from cs s g =
-    (count cs s (counts (s .rec)), carried-run cs s _ (record { sound = g; nodes = refl; slots = refl; counts = refl }))
+pub carried-from : {E : ℕ} (cs : List Step) (s : State) → Sound E s
+    → (n : Count) × Carried E (s .rec .m) (s .rec .r) n (run cs s)
+carried-from cs s g = (
+  count cs s (counts (s .rec)),
+  carried-run cs s _
+      (record { sound = g; nodes = refl; slots = refl; counts = refl }),
+)

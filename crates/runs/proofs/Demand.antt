@@ -45,8 +45,10 @@ module _ {E m : ℕ} (s : State) (w : Rows E m (s .edges)) {x : ℕ} where
   garbage-there h a = h (rw (w .count) (reach-from (λ n h. omega arith) a))
 
 -- up to the appending; while the roots are shaded no node is black
-no-black-to-white : {E : ℕ} (s : State) (ph : S.Phase) → Inv E (s .rec .m) (top s) (stateIn s ph) → ((i : ℕ) → ph ≢ S.Appending i)
-    → owes (s .rec .owed) ≡ none → (e x : ℕ) → e < E → colourOf s x ≡ 2 → colourOf s (edge s e x) ≢ 0
+no-black-to-white : {E : ℕ} (s : State) (ph : S.Phase) → Inv E (s .rec .m) (top s) (stateIn s ph)
+    → ((i : ℕ) → ph ≢ S.Appending i)
+    → owes (s .rec .owed) ≡ none → (e x : ℕ) → e < E → colourOf s x ≡ 2
+    → colourOf s (edge s e x) ≢ 0
 no-black-to-white s (S.Rooting i) v h o e x he b = absurd (at-roots (v .in-phase) .no-black x b)
 no-black-to-white s S.Seeking v h o e x he b = F.no-black-to-white v F.seeking o x e he b
 no-black-to-white s (S.Working i j) v h o e x he b = F.no-black-to-white v F.working o x e he b
@@ -70,7 +72,8 @@ module _ {E : ℕ} {s : State} (g : Sound E s) where
       go (closes e a k) = rw (k .code) (mild refl)
       go (edits e q k) = k .code
 
-  leaves : (c : Step) → collector c ≡ true → (side x : ℕ) → SlotReaches s x → edge (after c s) side x ≡ edge s side x
+  leaves : (c : Step) → collector c ≡ true → (side x : ℕ) → SlotReaches s x
+      → edge (after c s) side x ≡ edge s side x
   leaves c h side x a = go (stepped c s g)
     where
       by : {tk : Tick} → Collected E c s tk → edge (after c s) side x ≡ edge s side x
@@ -105,7 +108,8 @@ module _ {E : ℕ} {s : State} (g : Sound E s) where
       go (closes e y k) = by k
       go (edits e h k) = slot-here s (g .rows) (k .named x q)
 
-  changes : (c : Step) → collector c ≡ false → (side x : ℕ) → edge (after c s) side x ≢ edge s side x
+  changes : (c : Step) → collector c ≡ false → (side x : ℕ)
+      → edge (after c s) side x ≢ edge s side x
       → SlotReaches s x ⊎ ((side ≡ left) × ((x ≡ FREE) ⊎ (x ≡ edge s left FREE)))
   changes c h side x ne = go (stepped c s g)
     where
@@ -151,24 +155,35 @@ demand {E} {m} {r} {n} {s} v = record {
   spares = λ c x q a. appends-garbage (v .sound) c x q (reach-from (λ n h. omega arith) a);
   garbage = appends-garbage (v .sound);
   ends = λ cs l. ends-within v cs (omega (arith, l));
-  within = omega (arith, ap (λ (n : Count). n .took) (v .counts), v .sound .fits .told .took, same-bound);
+  within =
+      omega (
+        arith,
+        ap (λ (n : Count). n .took) (v .counts),
+        v .sound .fits .told .took,
+        same-bound,
+      );
   steps = ap (λ (n : Count). n .since) (v .counts);
   took = ap (λ (n : Count). n .took) (v .counts);
   cycles = ap (λ (n : Count). n .cycles) (v .counts);
   blackened = ap (λ (n : Count). n .blackened) (v .counts);
   inuse = ap (λ (n : Count). n .marked) (v .counts);
   appended = λ x hx a cs l.
-      let u = subst (λ r. Garbage E (suc (suc r)) (edge s) x) (v .slots) (garbage-there s (v .sound .rows) a) in
+      let u =
+      subst (λ r. Garbage E (suc (suc r)) (edge s) x) (v .slots)
+      (garbage-there s (v .sound .rows) a) in
       appended-within v x hx u cs (omega (arith, l));
   free = free-nodes (ready (v .sound));
   nil = v .sound .inv .shape .nil;
   head = v .sound .inv .shape .bare;
-  named = λ p x e q. slot-here s (v .sound .rows) (walked-at (rw q at (walked (ready (v .sound)) p (sym e))));
+  named =
+      λ p x e q. slot-here s (v .sound .rows)
+      (walked-at (rw q at (walked (ready (v .sound)) p (sym e))));
   looks = λ c x q. names (v .sound) c x (ap named q);
   links = λ c x q. names (v .sound) c x (ap named q);
   edits = changes (v .sound);
   no-black-to-white = λ h o side x l b.
-      no-black-to-white s _ (v .sound .inv) (λ i q. h i (is-append (view (v .sound .fits .few) (s .rec .phase)) q)) (ap owes o) side x
+      no-black-to-white s _ (v .sound .inv)
+      (λ i q. h i (is-append (view (v .sound .fits .few) (s .rec .phase)) q)) (ap owes o) side x
       (omega (arith, l, v .sound .rows .count)) b;
 }
   where

@@ -1,5 +1,6 @@
--- What is said of an outcome of an editor's step: it is a step of the theory's editor, or changes nothing, and its code is mild.
--- Codes before the walk, and the walk: from a ready state they refuse mildly, or the place names a node.
+-- What is said of an outcome of an editor's step: it is a step of the theory's editor, or changes
+-- nothing, and its code is mild. Codes before the walk, and the walk: from a ready state they
+-- refuse mildly, or the place names a node.
 use Prim.Native.Nat.{ℕ, zero, suc, _/_, _%_}
 use mathlib.Core.Bool.{true, false}
 use mathlib.Core.Path.{_≡_, refl, sym}
@@ -61,7 +62,8 @@ some-same q = cc
 pub same : (x : Record) (o : Owed) (n : ℕ) → Same x (withLast (withOwed x o) n)
 same x o n = record { m = refl; r = refl; phase = refl; counts = refl }
 
-pub refused : {E : ℕ} {s : State} {ph : S.Phase} → Fits E s → (code node : ℕ) → Mild code → Edited E s ph (refuse s code node)
+pub refused : {E : ℕ} {s : State} {ph : S.Phase} → Fits E s → (code node : ℕ) → Mild code
+    → Edited E s ph (refuse s code node)
 refused {E} {s} f code node h = record {
   deed = nothing;
   made = rest;
@@ -75,7 +77,8 @@ refused {E} {s} f code node h = record {
 }
 
 -- the codes given before the walk
-pub unless-edited : {E : ℕ} {s : State} {ph : S.Phase} → Ready E s ph → (cs : List ℕ) (o : Outcome) → Milds cs → (Zeros cs → Edited E s ph o)
+pub unless-edited : {E : ℕ} {s : State} {ph : S.Phase} → Ready E s ph → (cs : List ℕ) (o : Outcome)
+    → Milds cs → (Zeros cs → Edited E s ph o)
     → Edited E s ph (unless (first (check s ∷ cs)) s o)
 unfolding unless
 unless-edited {E} {s} {ph} g cs o h k =
@@ -98,28 +101,40 @@ walked-at (at a) = a
 turns-fit : (E r : ℕ) (p : Place) → 0 ≡ placeCode E r p → true ≡ sidesOk E (p .count) (p .word)
 unfolding placeCode turnsOk
 turns-fit E r p = split (λ (n : ℕ). 0 ≡ n → true ≡ sidesOk E (p .count) (p .word)) _ _ _
-    (λ a. split (λ (n : ℕ). 0 ≡ n → true ≡ sidesOk E (p .count) (p .word)) _ _ _ (λ b e. sym (each (_ ∷ sidesOk E (p .count) (p .word) ∷ _ ∷ []) (sym b) .1 .0)) (λ b e. absurd (omega arith)))
+    (λ a. split (λ (n : ℕ). 0 ≡ n → true ≡ sidesOk E (p .count) (p .word)) _ _ _
+    (λ b e. sym (each (_ ∷ sidesOk E (p .count) (p .word) ∷ _ ∷ []) (sym b) .1 .0))
+    (λ b e. absurd (omega arith)))
     (λ a e. absurd (omega arith))
 
 module _ {E : ℕ} {s : State} {ph : S.Phase} (g : Ready E s ph) where
-  walk-on : (k w n : ℕ) → true ≡ sidesOk E k w → Reach E (Slot (top s)) (edge s) n → Walked E s (walkFrom (base E) (edge s) (s .rec .m) k w n)
+  walk-on : (k w n : ℕ) → true ≡ sidesOk E k w → Reach E (Slot (top s)) (edge s) n
+      → Walked E s (walkFrom (base E) (edge s) (s .rec .m) k w n)
   unfolding walkFrom sidesOk
   walk-on zero w n h a = at a
   walk-on (suc k) w n h a =
       let d = w % base E in
-      let fine = good-edge (s .rec .m) (edge s d n) (g .inv .shape .bound d n) (g .inv .shape .not-free d n) in
+      let fine =
+      good-edge (s .rec .m) (edge s d n) (g .inv .shape .bound d n)
+      (g .inv .shape .not-free d n) in
       let t = each _ h in
       split (Walked E s) _ _ _ (λ z. at (rw (eqb-true n 0 z) at a))
-      (λ z. if-no (Walked E s) _ _ _ fine (walk-on k (w / base E) (edge s d n) (sym (t .1 .0)) (R.along d (ltb-true _ _ (t .0)) refl a)))
+      (λ z. if-no (Walked E s) _ _ _ fine
+      (walk-on k (w / base E) (edge s d n) (sym (t .1 .0))
+      (R.along d (ltb-true _ _ (t .0)) refl a)))
 
   pub walked : (p : Place) → 0 ≡ placeCode (sides s) (s .rec .r) p → Walked E s (walk s p)
-  walked p e = rw (g .rows .count) (walk-on (p .count) (p .word) (start p) (rw (g .rows .count) at (turns-fit (sides s) (s .rec .r) p e))
+  walked p e =
+      rw (g .rows .count) (walk-on (p .count) (p .word) (start p)
+      (rw (g .rows .count) at (turns-fit (sides s) (s .rec .r) p e))
       (R.start {n = start p} (omega (arith, slot-below (sides s) (s .rec .r) p e))))
 
-  pub arrived : {w : Walk} (go : ℕ → Outcome) → Walked E s w → ((n : ℕ) → Reach E (Slot (top s)) (edge s) n → Edited E s ph (go n)) → Edited E s ph (arrive s w go)
+  pub arrived : {w : Walk} (go : ℕ → Outcome) → Walked E s w
+      → ((n : ℕ) → Reach E (Slot (top s)) (edge s) n → Edited E s ph (go n))
+      → Edited E s ph (arrive s w go)
   unfolding arrive
   arrived go (at {n = n} a) k = k n a
 
 -- the editor's step leaves the phase: it is one of the theory's state
-pub made-there : {E : ℕ} {s : State} {o : Outcome} (e : Edited E s (kind E (s .rec .phase)) o) → EStep E (top s) (e .deed) (abs E s) (abs E (o .state))
+pub made-there : {E : ℕ} {s : State} {o : Outcome} (e : Edited E s (kind E (s .rec .phase)) o)
+    → EStep E (top s) (e .deed) (abs E s) (abs E (o .state))
 made-there e = rw (e .same .phase) (e .made)

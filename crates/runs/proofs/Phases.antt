@@ -1,5 +1,5 @@
--- The phases of the record, one by one: how code 2 tests each, and what the collector's step does there.
--- What is proved of a phase elsewhere goes by its kind, or by this view of it.
+-- The phases of the record, one by one: how code 2 tests each, and what the collector's step does
+-- there. What is proved of a phase elsewhere goes by its kind, or by this view of it.
 use Prim.Native.Nat.{ℕ, suc, _<_}
 use mathlib.Core.Bool.{true, false, true≢false}
 use mathlib.Core.Path.{_≡_, refl, sym, ap, _∙_}

@@ -1,5 +1,6 @@
--- The invariant of all runs: the sizes are good, the theory's invariant holds of the table, and the bill is paid.
--- In such a state neither code 1 nor code 2 is given. Of it an editor's step needs less: a state that is ready.
+-- The invariant of all runs: the sizes are good, the theory's invariant holds of the table, and the
+-- bill is paid. In such a state neither code 1 nor code 2 is given. Of it an editor's step needs
+-- less: a state that is ready.
 use Prim.Native.Nat.{ℕ, zero, suc, _+_, _≤_, _<_}
 use mathlib.Core.Bool.{Bool, true}
 use mathlib.Core.List.{List, _++_, map}
@@ -10,9 +11,11 @@ use native.Mathlib.Omega.{arith}
 use lib.ListN.{length, replicate, length-replicate}
 use lib.Dec.{eqb}
 use Rattle.base.specs.Choice.{every}
-use Rattle.base.proofs.Tests.{lt-yes, le-yes, eq-yes, eq-no, or-first, or-skip, not-is, every-skip, every-last, pick-yes, tests}
+use Rattle.base.proofs.Tests.{lt-yes, le-yes, eq-yes, eq-no, or-first, or-skip, not-is, every-skip}
+use Rattle.base.proofs.Tests.{every-last, pick-yes, tests}
 use Rattle.rules.specs.Table.{State, edge, colourOf}
-use Rattle.rules.specs.Check.{sizeOk, phaseOk, owedOk, lastOk, bound, cycleOk, countsOk, recordOk, checkOf, check}
+use Rattle.rules.specs.Check.{sizeOk, phaseOk, owedOk, lastOk, bound, cycleOk, countsOk, recordOk}
+use Rattle.rules.specs.Check.{checkOf, check}
 use Rattle.rules.specs.Facts.{Tells}
 use Rattle.rules.proofs.Good.{tells-ok}
 use Rattle.rules.specs.declared.Phase.{Phase}
@@ -55,7 +58,8 @@ abbrev pub InvIn : ℕ → State → Phase → Type 0
 InvIn E s ph = Inv E (s .rec .m) (top s) (stateAt E s ph)
 
 abbrev pub BillIn : ℕ → State → Phase → Type 0
-BillIn E s ph = Bill E (s .rec .m) (s .rec .r) (colourOf s) (s .rec .steps) (s .rec .blackened) ph (kind E ph)
+BillIn E s ph = Bill E (s .rec .m) (s .rec .r) (colourOf s) (s .rec .steps) (s .rec .blackened) ph
+    (kind E ph)
 
 pub record Fits (E : ℕ) (s : State) : Type 0 where
   pub few : Served E
@@ -74,45 +78,60 @@ pub record Sound (E : ℕ) (s : State) : Type 0 where
   pub bill : BillIn E s (s .rec .phase)
 
 pub sizes : {E : ℕ} {s : State} → Fits E s → Sizes E (s .rec .m) (top s)
-sizes f = record { edges = omega (arith, f .few); fixed = omega arith; room = omega (arith, f .room) }
+sizes f = record {
+  edges =
+      omega (arith, f .few);
+  fixed = omega arith;
+  room = omega (arith, f .room);
+}
 
 pub cycle-goes : {E : ℕ} {s : State} → Sound E s → s .rec .steps < bound E (s .rec .m) (s .rec .r)
 cycle-goes g = below-bound (g .inv .in-phase) (g .bill)
 
 -- E lengths of m are m each
-all-equal : (E m : ℕ) (bs : List Bool) → true ≡ every bs → true ≡ every (map (λ n. eqb n m) (replicate E m) ++ bs)
+all-equal : (E m : ℕ) (bs : List Bool) → true ≡ every bs → true
+    ≡ every (map (λ n. eqb n m) (replicate E m) ++ bs)
 all-equal zero m bs h = h
 all-equal (suc E) m bs h = every-skip _ _ _ (eq-yes m m refl) (all-equal E m bs h)
 
-pub size-ok : {E : ℕ} {s : State} → Fits E s → true ≡ sizeOk (s .rec .m) (s .rec .r) (replicate E (s .rec .m)) (length (s .colour))
+pub size-ok : {E : ℕ} {s : State} → Fits E s → true
+    ≡ sizeOk (s .rec .m) (s .rec .r) (replicate E (s .rec .m)) (length (s .colour))
 unfolding sizeOk
 size-ok {E} {s} f =
     let rest = all-equal E (s .rec .m) _ (every-last _ _ (eq-yes _ _ (f .colours))) in
     search (tests, f .m-low, f .m-high, f .r-low, f .r-high, f .room, rest) depth 12
 
-phase-ok : {E m r : ℕ} {s : Graph} {c : Colours} {o : Option ℕ} {n b : ℕ} {ph : Phase} → View E ph → InPhase E m (suc (suc r)) s c o (kind E ph)
+phase-ok : {E m r : ℕ} {s : Graph} {c : Colours} {o : Option ℕ} {n b : ℕ} {ph : Phase} → View E ph
+    → InPhase E m (suc (suc r)) s c o (kind E ph)
     → Bill E m r c n b ph (kind E ph) → true ≡ phaseOk m r ph
 unfolding phaseOk
 phase-ok {r = r} (rooting i) v b = le-yes i (r + 1) (omega (arith, at-roots v .pos))
 phase-ok (seeking i k) v (of-scan w) = search (tests, w .pos, w .low, w .high)
-phase-ok {m = m} {r} (shading k) v b = rw (k .test m r) (lt-yes _ _ (at-work (rw (k .here) at v) .pos))
+phase-ok {m =
+    m} {r} (shading k) v b = rw (k .test m r) (lt-yes _ _ (at-work (rw (k .here) at v) .pos))
 phase-ok (blackening i) v b = lt-yes _ _ (at-work v .pos)
 phase-ok (appending i) v b = lt-yes _ _ (at-append v .pos)
 
-pub owed-ok : {m : ℕ} (o : Owed) → ((x : ℕ) → owes o ≡ some x → (x ≢ 1) × (x < m)) → true ≡ owedOk m o
+pub owed-ok : {m : ℕ} (o : Owed) → ((x : ℕ) → owes o ≡ some x → (x ≢ 1) × (x < m)) → true
+    ≡ owedOk m o
 unfolding owedOk
 owed-ok Nothing h = refl
-owed-ok (Node x) h = every-skip _ _ _ (not-is _ (eq-no _ _ (h x refl .0))) (every-last _ _ (lt-yes _ _ (h x refl .1)))
+owed-ok (Node x) h = every-skip _ _ _ (not-is _ (eq-no _ _ (h x refl .0)))
+    (every-last _ _ (lt-yes _ _ (h x refl .1)))
 
 pub last-ok : {m r : ℕ} (l : ℕ) → (l ≡ 1) ⊎ ((suc (suc r) ≤ l) × (l < m)) → true ≡ lastOk m r l
 unfolding lastOk
 last-ok l (inl q) = or-first _ _ (eq-yes _ _ q)
 last-ok {r = r} l (inr q) =
-    or-skip _ _ _ (eq-no l 1 (omega arith)) (every-skip _ _ _ (le-yes (r + 2) l (omega arith)) (every-last _ _ (lt-yes _ _ (q .1))))
+    or-skip _ _ _ (eq-no l 1 (omega arith))
+    (every-skip _ _ _ (le-yes (r + 2) l (omega arith)) (every-last _ _ (lt-yes _ _ (q .1))))
 
-counts-ok : {E : ℕ} {s : State} → Sound E s → true ≡ countsOk (s .rec) (bound E (s .rec .m) (s .rec .r))
+counts-ok : {E : ℕ} {s : State} → Sound E s → true
+    ≡ countsOk (s .rec) (bound E (s .rec .m) (s .rec .r))
 unfolding countsOk cycleOk
-counts-ok {s} g = search (tests, blackened-le (g .bill), cycle-goes g, tells-ok (s .rec) _ (g .fits .told)) depth 7
+counts-ok {s} g =
+    search (tests, blackened-le (g .bill), cycle-goes g, tells-ok (s .rec) _ (g .fits .told)) depth
+    7
 
 record-ok : {E : ℕ} {s : State} → Sound E s → true ≡ recordOk E (s .rec)
 unfolding recordOk
@@ -124,7 +143,9 @@ record-ok {s} g =
 
 pub checked : {E : ℕ} {s : State} → Sound E s → 0 ≡ check s
 unfolding checkOf
-checked {E} {s} g = rw (g .rows .lengths, length-replicate E (s .rec .m)) (pick-yes _ _ _ _ (size-ok (g .fits)) (pick-yes _ _ _ _ (record-ok g) refl))
+checked {E} {s} g =
+    rw (g .rows .lengths, length-replicate E (s .rec .m))
+    (pick-yes _ _ _ _ (size-ok (g .fits)) (pick-yes _ _ _ _ (record-ok g) refl))
 
 -- what an editor's step needs to know, whatever the collector and its phase
 pub record Ready (E : ℕ) (s : State) (ph : S.Phase) : Type 0 where

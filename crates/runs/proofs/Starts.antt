@@ -1,4 +1,5 @@
--- Every start is a sound state at which nothing is counted yet. A new way to start has its clause here.
+-- Every start is a sound state at which nothing is counted yet. A new way to start has its clause
+-- here.
 use Prim.Native.Nat.{ℕ}
 use Rattle.rules.specs.Table.{State}
 use Rattle.runs.specs.Runs.{begun}

@@ -24,19 +24,32 @@ round m n h k = mod-eq-sub-mod h ∙ mod-eq-of-lt (omega arith)
 -- before the end
 pub straight : (c : List ℕ) (m i d : ℕ) → 0 ≡ stirs c i d → i + d ≤ m → Calm c m i d
 straight c m i d h k =
-    record { none = λ j q. let a = counts c i d j q in let z : (i + j) % m ≡ i + j = mod-eq-of-lt (omega arith) in rw z (omega arith) }
+    record {
+      none =
+          λ j q. let a = counts c i d j q in
+          let z : (i + j) % m ≡ i + j = mod-eq-of-lt (omega arith) in rw z (omega arith);
+    }
 
 -- where no colour stops a look
 pub everywhere : (c : List ℕ) (m i d : ℕ) → stirs c 0 m ≤ 0 → 0 < m → Calm c m i d
 everywhere c m i d h k =
-    record { none = λ j q. let z : 0 + (i + j) % m ≡ (i + j) % m = omega arith in let a = rw z at (counts c 0 m ((i + j) % m) (mod-lt (i + j) k)) in omega arith }
+    record {
+      none =
+          λ j q. let z : 0 + (i + j) % m ≡ (i + j) % m = omega arith in
+          let a = rw z at (counts c 0 m ((i + j) % m) (mod-lt (i + j) k)) in omega arith;
+    }
 
 -- up to the only one that does
-pub towards : (c : List ℕ) (m i t e : ℕ) → stirs c 0 m ≤ 1 → m ≤ length c → i < m → t < m → 1 ≤ stop (getD c t 0) → (i ≤ t → i + e ≡ t)
+pub towards : (c : List ℕ) (m i t e : ℕ) → stirs c 0 m ≤ 1 → m ≤ length c → i < m → t < m
+    → 1 ≤ stop (getD c t 0) → (i ≤ t → i + e ≡ t)
     → (t < i → i + e ≡ t + m) → Calm c m i e
-towards c m i t e h k a b s f g = record { none = λ j q. go j q (ltb i (t + 1)) refl (ltb (i + j) m) refl }
+towards c m i t e h k a b s f g = record {
+  none =
+      λ j q. go j q (ltb i (t + 1)) refl (ltb (i + j) m) refl;
+}
   where
-    go : (j : ℕ) → j < e → (u : Bool) → ltb i (t + 1) ≡ u → (v : Bool) → ltb (i + j) m ≡ v → 0 ≡ stop (getD c ((i + j) % m) 0)
+    go : (j : ℕ) → j < e → (u : Bool) → ltb i (t + 1) ≡ u → (v : Bool) → ltb (i + j) m ≡ v → 0
+        ≡ stop (getD c ((i + j) % m) 0)
     go j q true u true v =
         let u′ = ltb-true i (t + 1) u in
         let v′ = ltb-true (i + j) m v in
@@ -55,4 +68,5 @@ towards c m i t e h k a b s f g = record { none = λ j q. go j q (ltb i (t + 1))
         let u′ = ltb-false i (t + 1) u in
         let v′ = ltb-false (i + j) m v in
         let w = g (omega arith) in
-        rw (round m (i + j) v′ (omega arith)) (alone c m (i + j - m) t h b s (omega arith) (λ z. omega arith) k)
+        rw (round m (i + j) v′ (omega arith))
+        (alone c m (i + j - m) t h b s (omega arith) (λ z. omega arith) k)

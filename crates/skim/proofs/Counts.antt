@@ -15,14 +15,17 @@ use Rattle.skim.specs.Stirs.{stop, stirs, Upto}
 
 pub stop-most : (v : ℕ) → stop v ≤ 1
 unfolding stop
-stop-most v = split (λ (n : ℕ). n ≤ 1) _ _ _ (λ e. omega arith) (λ e. split (λ (n : ℕ). n ≤ 1) _ _ _ (λ f. omega arith) (λ f. omega arith))
+stop-most v =
+    split (λ (n : ℕ). n ≤ 1) _ _ _ (λ e. omega arith)
+    (λ e. split (λ (n : ℕ). n ≤ 1) _ _ _ (λ f. omega arith) (λ f. omega arith))
 
 -- a colour that a look passes over is white or black
 pub still : (v : ℕ) → 0 ≡ stop v → (v ≤ 2) × (v ≡ 1 → ⊥)
 unfolding stop
 still v = split (λ (n : ℕ). 0 ≡ n → (v ≤ 2) × (v ≡ 1 → ⊥)) _ _ _
     (λ e h. let q = eqb-true v 0 e in (omega arith, λ z. omega arith))
-    (λ e. split (λ (n : ℕ). 0 ≡ n → (v ≤ 2) × (v ≡ 1 → ⊥)) _ _ _ (λ f h. let q = eqb-true v 2 f in (omega arith, λ z. omega arith)) (λ f h. absurd (omega arith)))
+    (λ e. split (λ (n : ℕ). 0 ≡ n → (v ≤ 2) × (v ≡ 1 → ⊥)) _ _ _ (λ f h. let q = eqb-true v 2 f in
+    (omega arith, λ z. omega arith)) (λ f h. absurd (omega arith)))
 
 pub stirs-none : (c : List ℕ) (i : ℕ) → stirs c i 0 ≡ 0
 unfolding stirs
@@ -44,11 +47,14 @@ stirs-joined c i d (suc e) =
     rw (p, h, q) (omega arith)
 
 -- the colours before d and those from d on
-pub stirs-both : (c : List ℕ) (d e n a b : ℕ) → a ≡ stirs c 0 d → b ≡ stirs c d e → n ≡ d + e → a + b ≡ stirs c 0 n
-stirs-both c d e n a b p q h = let z : 0 + d ≡ d = omega arith in rw (h, stirs-joined, z) (omega arith)
+pub stirs-both : (c : List ℕ) (d e n a b : ℕ) → a ≡ stirs c 0 d → b ≡ stirs c d e → n ≡ d + e
+    → a + b ≡ stirs c 0 n
+stirs-both c d e n a b p q h =
+    let z : 0 + d ≡ d = omega arith in rw (h, stirs-joined, z) (omega arith)
 
 -- a run that begins inside another
-pub stirs-over : (c : List ℕ) (i d e w : ℕ) → e ≤ d → 0 ≡ stirs c i d → 0 ≡ stirs c (i + e) w → 0 ≡ stirs c i (e + w)
+pub stirs-over : (c : List ℕ) (i d e w : ℕ) → e ≤ d → 0 ≡ stirs c i d → 0 ≡ stirs c (i + e) w → 0
+    ≡ stirs c i (e + w)
 stirs-over c i d e w h z y =
     let s : d ≡ e + (d - e) = omega arith in
     let a = stirs-joined c i e (d - e) in
@@ -70,7 +76,8 @@ counts c i d j h =
 pub upto-none : (c : List ℕ) (i f : ℕ) → Upto c i 0 f
 upto-none c i f = record { none = λ q h k. let z : q ≡ 0 = omega arith in rw (z, stirs-none) }
 
-pub upto-more : (c : List ℕ) (i j f f′ : ℕ) → Upto c i j f → f′ ≤ f → (j < f′ → 0 ≡ stop (getD c (i + j) 0)) → Upto c i (j + 1) f′
+pub upto-more : (c : List ℕ) (i j f f′ : ℕ) → Upto c i j f → f′ ≤ f
+    → (j < f′ → 0 ≡ stop (getD c (i + j) 0)) → Upto c i (j + 1) f′
 upto-more c i j f f′ p h s = record { none = λ q a b. go q a b (ltb j q) refl }
   where
     go : (q : ℕ) → q ≤ j + 1 → q ≤ f′ → (t : Bool) → ltb j q ≡ t → 0 ≡ stirs c i q
@@ -83,13 +90,19 @@ upto-more c i j f f′ p h s = record { none = λ q a b. go q a b (ltb j q) refl
     go q a b false t = let g = ltb-false j q t in p .none q (omega arith) (omega arith)
 
 -- a colour outside the run does not count
-untouched : (c : List ℕ) (p v i d : ℕ) → ((j : ℕ) → j < d → i + j ≡ p → ⊥) → stirs (set c p v) i d ≡ stirs c i d
+untouched : (c : List ℕ) (p v i d : ℕ) → ((j : ℕ) → j < d → i + j ≡ p → ⊥) → stirs (set c p v) i d
+    ≡ stirs c i d
 unfolding stirs
 untouched c p v i zero h = refl
-untouched c p v i (suc d) h = rw (untouched c p v i d (λ j k. h j (omega arith)), getD-set-other c p (i + d) v 0 (λ z. h d (omega arith) z))
+untouched c p v i (suc d) h = rw (
+  untouched c p v i d (λ j k. h j (omega arith)),
+  getD-set-other c p
+      (i + d) v 0 (λ z. h d (omega arith) z),
+)
 
 -- where one colour changes
-pub changed : (c : List ℕ) (p v n : ℕ) → p < n → n ≤ length c → stirs (set c p v) 0 n + stop (getD c p 0) ≡ stirs c 0 n + stop v
+pub changed : (c : List ℕ) (p v n : ℕ) → p < n → n ≤ length c
+    → stirs (set c p v) 0 n + stop (getD c p 0) ≡ stirs c 0 n + stop v
 changed c p v n h k =
     let s : n ≡ p + 1 + (n - p - 1) = omega arith in
     let z : 0 + p ≡ p = omega arith in
@@ -104,7 +117,8 @@ changed c p v n h k =
     rw s (omega (arith, rw w at g, rw y at m))
 
 -- beside one that stops a look, no other does where at most one does
-pub alone : (c : List ℕ) (n p q : ℕ) → stirs c 0 n ≤ 1 → q < n → 1 ≤ stop (getD c q 0) → p < n → (p ≡ q → ⊥) → n ≤ length c → 0 ≡ stop (getD c p 0)
+pub alone : (c : List ℕ) (n p q : ℕ) → stirs c 0 n ≤ 1 → q < n → 1 ≤ stop (getD c q 0) → p < n
+    → (p ≡ q → ⊥) → n ≤ length c → 0 ≡ stop (getD c p 0)
 unfolding stop pick
 alone c n p q h a s b f k =
     let w = changed c q 0 n a k in

@@ -3,6 +3,7 @@ ghost use mathlib.Core.Path.{_≡_};
 ghost use Prim.Native.Nat.{_+_, _<_, _≤_};
 ghost use lib.ListN.{length};
 ghost use Rattle.skim.specs.Stirs.{stop, stirs};
+ghost use Rattle.base.specs.Lent.{was};
 
 // 1 where this colour stops a look, else 0.
 pub fn stops(v: u8) -> u8
@@ -23,10 +24,11 @@ fn wide(a: u8) -> usize
     a as usize
 }
 
-// How many of the 64 colours from i on stop a look. It reads them all, so that the compiler can take them many at a time.
+// How many of the 64 colours from i on stop a look. It reads them all, so that the compiler can
+// take them many at a time.
 fn block(colour: &[u8], i: usize) -> u8
     requires { ⌜ i + 64 ≤ length (now colour) ⌝ }
-    ensures { λ r. ⌜ (r ≤ 64) × (r ≡ stirs (now (colour .entry)) i 64) ⌝ }
+    ensures { λ r. ⌜ (r ≤ 64) × (r ≡ stirs (was colour) i 64) ⌝ }
 {
     let mut found = 0;
     let mut j = 0;
@@ -40,7 +42,7 @@ fn block(colour: &[u8], i: usize) -> u8
 // How many of the d colours from i on stop a look.
 fn few(colour: &[u8], i: usize, d: usize) -> usize
     requires { ⌜ i + d ≤ length (now colour) ⌝ }
-    ensures { λ r. ⌜ (r ≤ d) × (r ≡ stirs (now (colour .entry)) i d) ⌝ }
+    ensures { λ r. ⌜ (r ≤ d) × (r ≡ stirs (was colour) i d) ⌝ }
 {
     let mut found = 0;
     let mut j = 0;
@@ -53,7 +55,7 @@ fn few(colour: &[u8], i: usize, d: usize) -> usize
 
 // How many colours stop a look.
 pub fn stirring(colour: &[u8]) -> usize
-    ensures { λ r. ⌜ r ≡ stirs (now (colour .entry)) 0 (length (now (colour .entry))) ⌝ }
+    ensures { λ r. ⌜ r ≡ stirs (was colour) 0 (length (was colour)) ⌝ }
 {
     let mut found = 0;
     let mut d = 0;
@@ -86,7 +88,7 @@ fn lower(a: u8, b: u8) -> u8
 // Where the first of the 64 colours from i on is that stops a look; 64 if none does.
 fn within(colour: &[u8], i: usize) -> usize
     requires { ⌜ i + 64 ≤ length (now colour) ⌝ }
-    ensures { λ r. ⌜ (r ≤ 64) × (0 ≡ stirs (now (colour .entry)) i r) ⌝ }
+    ensures { λ r. ⌜ (r ≤ 64) × (0 ≡ stirs (was colour) i r) ⌝ }
 {
     let mut first = 64;
     let mut j = 0;
@@ -97,10 +99,12 @@ fn within(colour: &[u8], i: usize) -> usize
     wide(first)
 }
 
-// From i on, at most most colours, up to the first that stops a look, 64 at a time. The last ones are read with some of those before them.
+// From i on, at most most colours, up to the first that stops a look, 64 at a time. The last ones
+// are read with some of those before them.
 fn blocks(colour: &[u8], i: usize, most: usize) -> usize
-    requires { ⌜ (i + most ≤ length (now colour)) × (64 ≤ most) ⌝ }
-    ensures { λ d. ⌜ (d ≤ most) × (0 ≡ stirs (now (colour .entry)) i d) ⌝ }
+    requires { ⌜ i + most ≤ length (now colour) ⌝ }
+    requires { ⌜ 64 ≤ most ⌝ }
+    ensures { λ d. ⌜ (d ≤ most) × (0 ≡ stirs (was colour) i d) ⌝ }
 {
     let mut d = 0;
     while 64 <= most - d {
@@ -116,7 +120,7 @@ fn blocks(colour: &[u8], i: usize, most: usize) -> usize
 // The same, one at a time.
 fn singles(colour: &[u8], i: usize, most: usize) -> usize
     requires { ⌜ i + most ≤ length (now colour) ⌝ }
-    ensures { λ d. ⌜ (d ≤ most) × (0 ≡ stirs (now (colour .entry)) i d) ⌝ }
+    ensures { λ d. ⌜ (d ≤ most) × (0 ≡ stirs (was colour) i d) ⌝ }
 {
     let mut d = 0;
     while d < most {
@@ -131,7 +135,7 @@ fn singles(colour: &[u8], i: usize, most: usize) -> usize
 // How many colours from i on, at most most, a look passes over.
 pub fn calm(colour: &[u8], i: usize, most: usize) -> usize
     requires { ⌜ i + most ≤ length (now colour) ⌝ }
-    ensures { λ d. ⌜ (d ≤ most) × (0 ≡ stirs (now (colour .entry)) i d) ⌝ }
+    ensures { λ d. ⌜ (d ≤ most) × (0 ≡ stirs (was colour) i d) ⌝ }
 {
     if most < 64 {
         return singles(colour, i, most);

@@ -22,7 +22,9 @@ stay s d h p =
       m = refl;
       r = refl;
       passes = p;
-      same = λ n e a. let z : e + 0 ≡ e = omega arith in let y : 0 + suc n ≡ suc n = omega arith in rw (h, z, y);
+      same =
+          λ n e a. let z : e + 0 ≡ e = omega arith in let y : 0 + suc n ≡ suc n = omega arith in
+          rw (h, z, y);
     }
 
 -- a stride and the stride after it
@@ -40,7 +42,8 @@ then s t u d e f h p q =
     }
 
 -- the same where the steps are counted from a start
-pub on : (s t u : State) (d e f : ℕ) → d ≤ e → e ≤ f → Leads s (e - d) t → Leads t (f - e) u → Leads s (f - d) u
+pub on : (s t u : State) (d e f : ℕ) → d ≤ e → e ≤ f → Leads s (e - d) t → Leads t (f - e) u
+    → Leads s (f - d) u
 on s t u d e f h k = then s t u (e - d) (f - e) (f - d) (omega arith)
 
 pub fewer : (x : Record) (cap d : ℕ) → d ≤ cap → Room x cap → Room x d
@@ -60,7 +63,8 @@ pub step-is : (s : State) → Passes s → phaseStep s (s .rec .phase) ≡ step 
 unfolding collect
 step-is s p = rw step-collecting (unless-done _ _ _ _ _ (p .code) refl refl)
 
-pub done-on : (s : State) (o : Outcome) (n e : ℕ) (a : Answer) → o ≡ step collecting s → codeOf (o .answer) ≡ 0
+pub done-on : (s : State) (o : Outcome) (n e : ℕ) (a : Answer) → o ≡ step collecting s
+    → codeOf (o .answer) ≡ 0
     → more (suc n) e a s ≡ more n (e + 1) (o .answer) (o .state)
 unfolding more
 done-on s o n e a w z = rw (← w) (sym (pick-yes _ _ _ _ (eq-yes _ _ z) refl))
@@ -70,7 +74,8 @@ unfolding more
 any-answer s n e a b = refl
 
 -- a step that is done and leaves the two counts within their limits
-pub step-on : (s : State) (o : Outcome) → Passes s → o ≡ phaseStep s (s .rec .phase) → codeOf (o .answer) ≡ 0 → o .state .rec .blackened ≤ s .rec .m
+pub step-on : (s : State) (o : Outcome) → Passes s → o ≡ phaseStep s (s .rec .phase)
+    → codeOf (o .answer) ≡ 0 → o .state .rec .blackened ≤ s .rec .m
     → o .state .rec .steps < bound (count s) (s .rec .m) (s .rec .r) → Leads s 1 (o .state)
 unfolding cycleOk
 step-on s o p w z k l =
@@ -79,8 +84,13 @@ step-on s o p w z k l =
     record {
       m = h .rec .m;
       r = h .rec .r;
-      passes = record { code = passes-again s (p .code) o h (every-skip _ _ _ (le-yes _ _ b) (every-skip _ _ _ (lt-yes _ _ l) every-none)) };
+      passes = record {
+        code =
+            passes-again s (p .code) o h (every-skip _ _ _ (le-yes _ _ b)
+            (every-skip _ _ _ (lt-yes _ _ l) every-none));
+      };
       same = λ n e a.
           let i : 1 + suc n ≡ suc (suc n) = omega arith in
-          rw i (done-on s o (suc n) e a (w ∙ step-is s p) z ∙ any-answer (o .state) n (e + 1) (o .answer) a);
+          rw i (done-on s o (suc n) e a (w ∙ step-is s p) z
+          ∙ any-answer (o .state) n (e + 1) (o .answer) a);
     }

@@ -1,5 +1,5 @@
 -- At a gray node with two good edges four steps are: shade, shade, blacken.
-use Prim.Native.Nat.{ℕ, _+_, _-_, _%_, _≤_, _<_}
+use Prim.Native.Nat.{ℕ, _+_, _≤_, _<_}
 use mathlib.Core.Path.{_≡_, refl, sym, ap, _∙_}
 use mathlib.Core.Bool.{Bool, true, false}
 use mathlib.Core.List.{List}
@@ -25,27 +25,40 @@ use Rattle.strides.proofs.Strides.{then, step-on}
 abbrev pub visited : Record → ℕ → Record
 visited x i = withSteps (rescan x i) (x .steps + 4)
 
-look-gray : (s : State) (i k : ℕ) → colourOf s i ≡ 1 → did (Looked i) s (moved (s .rec) (Left i)) ≡ phaseStep s (Scan i k)
+look-gray : (s : State) (i k : ℕ) → colourOf s i ≡ 1 → did (Looked i) s (moved (s .rec) (Left i))
+    ≡ phaseStep s (Scan i k)
 unfolding phaseStep scanStep
-look-gray s i k h = pick-no _ _ _ _ (lt-no 2 (colourOf s i) (omega arith)) (pick-yes _ _ _ _ (eq-yes _ _ h) refl)
+look-gray s i k h =
+    pick-no _ _ _ _ (lt-no 2 (colourOf s i) (omega arith)) (pick-yes _ _ _ _ (eq-yes _ _ h) refl)
 
-edge-on : (s : State) (i e : ℕ) (p : Phase) → Fit (s .rec .m) (s .colour) e → did (Shaded e) (shade s e) (moved (s .rec) p) ≡ edgeStep s i e p
+edge-on : (s : State) (i e : ℕ) (p : Phase) → Fit (s .rec .m) (s .colour) e
+    → did (Shaded e) (shade s e) (moved (s .rec) p) ≡ edgeStep s i e p
 unfolding edgeStep shadeStep badEdge
 edge-on s i e p f =
-    pick-no _ _ _ _ (or-skip _ _ _ (le-no _ _ (f .below)) (eq-no _ _ (f .not-free))) (pick-no _ _ _ _ (lt-no _ _ (f .known)) refl)
+    pick-no _ _ _ _ (or-skip _ _ _ (le-no _ _ (f .below)) (eq-no _ _ (f .not-free)))
+    (pick-no _ _ _ _ (lt-no _ _ (f .known)) refl)
 
 -- shading a node leaves good colours good
 still-fit : (m : ℕ) (c : List ℕ) (e f : ℕ) → e < length c → Fit m c f → Fit m (shadeIn c e) f
 unfolding shadeIn
-still-fit m c e f v h = record { below = h .below; not-free = h .not-free; known = split (λ (a : List ℕ). getD a f 0 ≤ 2) _ _ _ (λ q. go (eqb e f) refl) (λ q. h .known) }
+still-fit m c e f v h = record {
+  below =
+      h .below;
+  not-free = h .not-free;
+  known = split (λ (a : List ℕ). getD a f 0 ≤ 2) _ _ _
+      (λ q. go (eqb e f) refl) (λ q. h .known);
+}
   where
     go : (b : Bool) → eqb e f ≡ b → getD (set c e 1) f 0 ≤ 2
     go true q = let z = eqb-true e f q in rw (← z, getD-set-same c e 1 0 v) (omega arith)
     go false q = rw (getD-set-other c e f 1 0 (λ z. eqb-false e f q (sym z))) (h .known)
 
-module _ (l r c : List ℕ) (x : Record) (i k : ℕ) (p : Passes (state l r c x)) (h : x .phase ≡ Scan i k) where
-  pub visits : getD c i 0 ≡ 1 → Fit (x .m) c (getD l i 0) → Fit (x .m) c (getD r i 0) → x .steps + 4 < bound 2 (x .m) (x .r) → x .blackened < x .m
-      → Leads (state l r c x) 4 (state l r (set (shadeIn (shadeIn c (getD l i 0)) (getD r i 0)) i 2) (visited x i))
+module _ (l r c : List ℕ) (x : Record) (i k : ℕ) (p : Passes (state l r c x))
+    (h : x .phase ≡ Scan i k) where
+  pub visits : getD c i 0 ≡ 1 → Fit (x .m) c (getD l i 0) → Fit (x .m) c (getD r i 0)
+      → x .steps + 4 < bound 2 (x .m) (x .r) → x .blackened < x .m
+      → Leads (state l r c x) 4 (state l r (set (shadeIn (shadeIn c (getD l i 0)) (getD r i 0)) i 2)
+      (visited x i))
   unfolding phaseStep blackStep edgeOf
   visits gray left right room dark =
       let g = good _ _ _ x (p .code) in
@@ -56,9 +69,20 @@ module _ (l r c : List ℕ) (x : Record) (i k : ℕ) (p : Passes (state l r c x)
       let y3 = moved y2 (Black i) in
       let c1 = shadeIn c e in
       let c2 = shadeIn c1 f in
-      let a1 = step-on (state l r c x) (did (Looked i) (state l r c x) y1) p (look-gray (state l r c x) i k gray ∙ ap (phaseStep (state l r c x)) (sym h)) refl (g .blackened) (omega arith) in
-      let a2 = step-on (state l r c y1) _ (a1 .passes) (edge-on (state l r c y1) i e (Right i) left) refl (g .blackened) (omega arith) in
-      let a3 = step-on (state l r c1 y2) _ (a2 .passes) (edge-on (state l r c1 y2) i f (Black i) (still-fit _ c e f (omega (arith, g, left)) right)) refl (g .blackened) (omega arith) in
-      let a4 = step-on (state l r c2 y3) (did (Blackened i) (state l r (set c2 i 2) y3) (rescan y3 i)) (a3 .passes) refl refl (omega arith) (omega arith) in
+      let a1 =
+      step-on (state l r c x) (did (Looked i) (state l r c x) y1) p
+      (look-gray (state l r c x) i k gray ∙ ap (phaseStep (state l r c x)) (sym h)) refl
+      (g .blackened) (omega arith) in
+      let a2 =
+      step-on (state l r c y1) _ (a1 .passes) (edge-on (state l r c y1) i e (Right i) left) refl
+      (g .blackened) (omega arith) in
+      let a3 =
+      step-on (state l r c1 y2) _ (a2 .passes)
+      (edge-on (state l r c1 y2) i f (Black i)
+      (still-fit _ c e f (omega (arith, g, left)) right)) refl (g .blackened) (omega arith)
+      in
+      let a4 =
+      step-on (state l r c2 y3) (did (Blackened i) (state l r (set c2 i 2) y3) (rescan y3 i))
+      (a3 .passes) refl refl (omega arith) (omega arith) in
       let z : x .steps + 1 + 1 + 1 + 1 ≡ x .steps + 4 = omega arith in
       rw (z) at (then _ _ _ 1 3 _ refl a1 (then _ _ _ 1 2 _ refl a2 (then _ _ _ 1 1 _ refl a3 a4)))

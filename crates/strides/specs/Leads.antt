@@ -24,7 +24,8 @@ lasted n a s = record { done = n; answer = a; state = s }
 unfoldable pub more : ℕ → ℕ → Answer → State → Lasted
 more zero d a s = lasted d a s
 more (suc n) d a s =
-    pick (eqb (codeOf (step collecting s .answer)) 0) (more n (d + 1) (step collecting s .answer) (step collecting s .state))
+    pick (eqb (codeOf (step collecting s .answer)) 0)
+    (more n (d + 1) (step collecting s .answer) (step collecting s .state))
     (lasted d (step collecting s .answer) s)
 
 -- neither code 1 nor code 2

@@ -16,7 +16,8 @@ rooted x i d = withPhase (withSteps x (x .steps + d)) (Roots (i + d))
 -- d steps from Roots i on, where at most cap may be made, turn the colours c into c′
 pub record Shades (c : List ℕ) (i cap d : ℕ) (c′ : List ℕ) : Type 0 where
   pub leads :
-      (l k : List ℕ) (x : Record) → Passes (state l k c x) → x .phase ≡ Roots i → Room x cap → i + cap ≤ x .r + 1
+      (l k : List ℕ) (x : Record) → Passes (state l k c x) → x .phase ≡ Roots i → Room x cap
+      → i + cap ≤ x .r + 1
       → Leads (state l k c x) d (state l k c′ (rooted x i d))
 
 -- the record at s

@@ -9,6 +9,8 @@ ghost use Rattle.rules.specs.Table.{state};
 ghost use Rattle.rules.specs.declared.Phase.the-variants.{Roots, Append};
 ghost use Rattle.strides.specs.Leads.{Passes, Room, Leads};
 ghost use Rattle.sweep.specs.Rows.{rooted, Shades, swept};
+ghost use Rattle.base.specs.Lent.{was, is};
+ghost use Rattle.rules.specs.Lent.{given};
 
 // Where the appending stands: Append i, the end of the free list, and the steps made here.
 struct Row {
@@ -19,8 +21,9 @@ struct Row {
 
 // Shades the nodes from i on, at most cap of them, up to a bad colour, and counts them.
 fn shading(colour: &mut [u8], i: usize, cap: usize) -> usize
-    requires { ⌜ (i + cap ≤ length (now colour)) × (length (now colour) ≤ 4096) ⌝ }
-    ensures { λ d. ⌜ (d ≤ cap) × Shades (now (colour .entry)) i cap d (now (colour .exit)) ⌝ }
+    requires { ⌜ i + cap ≤ length (now colour) ⌝ }
+    requires { ⌜ length (now colour) ≤ 4096 ⌝ }
+    ensures { λ d. ⌜ (d ≤ cap) × Shades (was colour) i cap d (is colour) ⌝ }
 {
     let mut d = 0;
     while d < cap {
@@ -34,7 +37,8 @@ fn shading(colour: &mut [u8], i: usize, cap: usize) -> usize
 }
 
 fn rooted(mut x: Record, i: usize, d: usize) -> Record
-    requires { ⌜ (i + d < 4096) × (x .steps + d < 20000000) ⌝ }
+    requires { ⌜ i + d < 4096 ⌝ }
+    requires { ⌜ x .steps + d < 20000000 ⌝ }
     ensures { λ r. ⌜ r ≡ rooted x i d ⌝ }
 {
     x.steps = x.steps + d as u32;
@@ -42,7 +46,9 @@ fn rooted(mut x: Record, i: usize, d: usize) -> Record
 }
 
 fn swept(mut x: Record, s: Row) -> Record
-    requires { ⌜ (s .i < 4096) × ((s .last < 4096) × (x .steps + s .d < 20000000)) ⌝ }
+    requires { ⌜ s .i < 4096 ⌝ }
+    requires { ⌜ s .last < 4096 ⌝ }
+    requires { ⌜ x .steps + s .d < 20000000 ⌝ }
     ensures { λ r. ⌜ r ≡ swept x s ⌝ }
 {
     x.steps = x.steps + s.d as u32;
@@ -52,8 +58,11 @@ fn swept(mut x: Record, s: Row) -> Record
 
 // Roots i: at most cap steps, none of them that of the last root.
 pub fn roots(left: &[u16], right: &[u16], colour: &mut [u8], x: Record, i: u16, cap: usize) -> Ahead
-    requires { ⌜ (Passes (state (now left) (now right) (now colour) x)) × ((Room x cap) × (x .phase ≡ Roots i)) ⌝ }
-    ensures { λ r. ⌜ (r .d ≤ cap) × Leads (state (now (left .entry)) (now (right .entry)) (now (colour .entry)) x) (r .d) (state (now (left .entry)) (now (right .entry)) (now (colour .exit)) (r .rec)) ⌝ }
+    requires { ⌜ Passes (state (now left) (now right) (now colour) x) ⌝ }
+    requires { ⌜ Room x cap ⌝ }
+    requires { ⌜ x .phase ≡ Roots i ⌝ }
+    ensures { λ r. ⌜ (r .d ≤ cap) × Leads (given left right colour x) (r .d)
+        (state (was left) (was right) (is colour) (r .rec)) ⌝ }
 {
     let from = i as usize;
     let near = strides::least(cap, x.r as usize + 1 - from);
@@ -66,8 +75,13 @@ pub fn roots(left: &[u16], right: &[u16], colour: &mut [u8], x: Record, i: u16, 
 
 // A white node i goes to the end of the free list; s where that is refused.
 fn append_white(left: &mut [u16], right: &mut [u16], colour: &[u8], x: Record, s: Row) -> Row
-    requires { ⌜ (Passes (state (now left) (now right) (now colour) (swept x s))) × ((Room x (s .d + 1)) × ((s .i + 1 < x .m) × (getD (now colour) (s .i) 0 ≡ 0))) ⌝ }
-    ensures { λ r. ⌜ (r .d ≤ s .d + 1) × ((s .d ≤ r .d) × Leads (state (now (left .entry)) (now (right .entry)) (now (colour .entry)) (swept x s)) (r .d - s .d) (state (now (left .exit)) (now (right .exit)) (now (colour .entry)) (swept x r))) ⌝ }
+    requires { ⌜ Passes (state (now left) (now right) (now colour) (swept x s)) ⌝ }
+    requires { ⌜ Room x (s .d + 1) ⌝ }
+    requires { ⌜ s .i + 1 < x .m ⌝ }
+    requires { ⌜ getD (now colour) (s .i) 0 ≡ 0 ⌝ }
+    ensures { λ r. ⌜ (r .d ≤ s .d + 1) ×
+        ((s .d ≤ r .d) × Leads (given left right colour (swept x s)) (r .d - s .d)
+        (state (is left) (is right) (was colour) (swept x r))) ⌝ }
 {
     let i = s.i;
     let last = s.last;
@@ -89,8 +103,11 @@ fn append_white(left: &mut [u16], right: &mut [u16], colour: &[u8], x: Record, s
 
 // One step of Append; s where it is refused, or where it is the last node's.
 fn append_one(left: &mut [u16], right: &mut [u16], colour: &mut [u8], x: Record, s: Row) -> Row
-    requires { ⌜ (Passes (state (now left) (now right) (now colour) (swept x s))) × (Room x (s .d + 1)) ⌝ }
-    ensures { λ r. ⌜ (r .d ≤ s .d + 1) × ((s .d ≤ r .d) × Leads (state (now (left .entry)) (now (right .entry)) (now (colour .entry)) (swept x s)) (r .d - s .d) (state (now (left .exit)) (now (right .exit)) (now (colour .exit)) (swept x r))) ⌝ }
+    requires { ⌜ Passes (state (now left) (now right) (now colour) (swept x s)) ⌝ }
+    requires { ⌜ Room x (s .d + 1) ⌝ }
+    ensures { λ r. ⌜ (r .d ≤ s .d + 1) ×
+        ((s .d ≤ r .d) × Leads (given left right colour (swept x s)) (r .d - s .d)
+        (state (is left) (is right) (is colour) (swept x r))) ⌝ }
 {
     let i = s.i;
     if i + 1 == x.m as usize {
@@ -118,8 +135,11 @@ fn appending(
     cap: usize,
     from: Row,
 ) -> Row
-    requires { ⌜ (Passes (state (now left) (now right) (now colour) (swept x from))) × ((Room x cap) × (from .d ≤ cap)) ⌝ }
-    ensures { λ r. ⌜ (r .d ≤ cap) × ((from .d ≤ r .d) × Leads (state (now (left .entry)) (now (right .entry)) (now (colour .entry)) (swept x from)) (r .d - from .d) (state (now (left .exit)) (now (right .exit)) (now (colour .exit)) (swept x r))) ⌝ }
+    requires { ⌜ Passes (state (now left) (now right) (now colour) (swept x from)) ⌝ }
+    requires { ⌜ Room x cap ⌝ }
+    requires { ⌜ from .d ≤ cap ⌝ }
+    ensures { λ r. ⌜ (r .d ≤ cap) × ((from .d ≤ r .d)
+        × Leads (given left right colour (swept x from)) (r .d - from .d) (state (is left) (is right) (is colour) (swept x r))) ⌝ }
 {
     let mut s = from;
     while s.d < cap {
@@ -141,8 +161,11 @@ pub fn appends(
     i: u16,
     cap: usize,
 ) -> Ahead
-    requires { ⌜ (Passes (state (now left) (now right) (now colour) x)) × ((Room x cap) × (x .phase ≡ Append i)) ⌝ }
-    ensures { λ r. ⌜ (r .d ≤ cap) × Leads (state (now (left .entry)) (now (right .entry)) (now (colour .entry)) x) (r .d) (state (now (left .exit)) (now (right .exit)) (now (colour .exit)) (r .rec)) ⌝ }
+    requires { ⌜ Passes (state (now left) (now right) (now colour) x) ⌝ }
+    requires { ⌜ Room x cap ⌝ }
+    requires { ⌜ x .phase ≡ Append i ⌝ }
+    ensures { λ r. ⌜ (r .d ≤ cap) × Leads (given left right colour x) (r .d)
+        (state (is left) (is right) (is colour) (r .rec)) ⌝ }
 {
     let from = Row {
         i: i as usize,

@@ -11,4 +11,5 @@ use Rattle.rules.specs.declared.Place.{Place}
 -- the refusals that read nothing of the table, in order
 unfoldable pub takeCode : ℕ → ℕ → ℕ → Record → Place → ℕ → ℕ
 takeCode ll rl cl x p side =
-    first (checkOf (ll ∷ rl ∷ []) cl x ∷ sideCode 2 side ∷ placeCode 2 (x .r) p ∷ owedCode (x .owed) ∷ [])
+    first (checkOf (ll ∷ rl ∷ []) cl x ∷ sideCode 2 side ∷ placeCode 2 (x .r) p ∷ owedCode
+    (x .owed) ∷ [])

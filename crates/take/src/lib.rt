@@ -8,12 +8,14 @@ ghost use mathlib.Core.Path.{_≡_};
 ghost use mathlib.Core.List.{[], _∷_};
 ghost use Prim.Native.Nat.{_+_, _<_, _≤_};
 ghost use lib.ListN.{length};
-ghost use Rattle.rules.specs.Table.{state, outcome, edgeOf};
+ghost use Rattle.rules.specs.Table.{state, edgeOf};
 ghost use Rattle.rules.specs.Editor.{depart, badFree, relink, takeNext, takeFirst};
 ghost use Rattle.rules.specs.Steps.{step, taking};
 ghost use Rattle.rules.specs.Facts.{Good};
 ghost use Rattle.rules.specs.declared.Record.{Record};
 ghost use Rattle.take.specs.Codes.{takeCode};
+ghost use Rattle.base.specs.Lent.{was, is};
+ghost use Rattle.rules.specs.Lent.{given, leaves};
 
 fn take_code(lefts: usize, rights: usize, colours: usize, x: Record, p: Place, side: u32) -> u8
     ensures { λ c. ⌜ c ≡ takeCode lefts rights colours x p side ⌝ }
@@ -50,8 +52,16 @@ fn bad_free(m: u16, r: u16, e: u16) -> bool
 
 // The edge points to f, FREE's left edge to g, f's left edge to NIL; f is shaded.
 fn relink(left: &mut [u16], right: &mut [u16], colour: &mut [u8], n: u16, side: u32, f: u16, g: u16)
-    requires { ⌜ (side < 2) × ((1 < length (now left)) × ((1 < length (now right)) × ((n < length (now left)) × ((n < length (now right)) × ((f < length (now left)) × ((f < length (now right)) × (f < length (now colour)))))))) ⌝ }
-    ensures { λ _. ⌜ ((x : Record) → state (now (left .exit)) (now (right .exit)) (now (colour .exit)) x ≡ relink (state (now (left .entry)) (now (right .entry)) (now (colour .entry)) x) n side f g) ⌝ }
+    requires { ⌜ side < 2 ⌝ }
+    requires { ⌜ 1 < length (now left) ⌝ }
+    requires { ⌜ 1 < length (now right) ⌝ }
+    requires { ⌜ n < length (now left) ⌝ }
+    requires { ⌜ n < length (now right) ⌝ }
+    requires { ⌜ f < length (now left) ⌝ }
+    requires { ⌜ f < length (now right) ⌝ }
+    requires { ⌜ f < length (now colour) ⌝ }
+    ensures { λ _. ⌜ ((x : Record) → state (is left) (is right) (is colour) x
+        ≡ relink (given left right colour x) n side f g) ⌝ }
 {
     table::set_edge(left, right, side, n, f);
     table::set_edge(left, right, 0, 1, g);
@@ -70,8 +80,12 @@ fn take_next(
     f: u16,
     g: u16,
 ) -> Made
-    requires { ⌜ (Good (length (now left)) (length (now right)) (length (now colour)) x) × ((n < x .m) × ((f < x .m) × (side < 2))) ⌝ }
-    ensures { λ r. ⌜ outcome r (now (left .exit)) (now (right .exit)) (now (colour .exit)) ≡ takeNext (state (now (left .entry)) (now (right .entry)) (now (colour .entry)) x) n side f g ⌝ }
+    requires { ⌜ Good (length (now left)) (length (now right)) (length (now colour)) x ⌝ }
+    requires { ⌜ n < x .m ⌝ }
+    requires { ⌜ f < x .m ⌝ }
+    requires { ⌜ side < 2 ⌝ }
+    ensures { λ r. ⌜ leaves r left right colour
+        ≡ takeNext (given left right colour x) n side f g ⌝ }
 {
     if bad_free(x.m, x.r, g) {
         return Made {
@@ -118,8 +132,10 @@ fn take_first(
     f: u16,
     n: u16,
 ) -> Made
-    requires { ⌜ (Good (length (now left)) (length (now right)) (length (now colour)) x) × ((n < x .m) × (side < 2)) ⌝ }
-    ensures { λ r. ⌜ outcome r (now (left .exit)) (now (right .exit)) (now (colour .exit)) ≡ takeFirst (state (now (left .entry)) (now (right .entry)) (now (colour .entry)) x) side f n ⌝ }
+    requires { ⌜ Good (length (now left)) (length (now right)) (length (now colour)) x ⌝ }
+    requires { ⌜ n < x .m ⌝ }
+    requires { ⌜ side < 2 ⌝ }
+    ensures { λ r. ⌜ leaves r left right colour ≡ takeFirst (given left right colour x) side f n ⌝ }
 {
     if bad_free(x.m, x.r, f) {
         return Made {
@@ -146,8 +162,12 @@ fn take_from(
     p: Place,
     side: u32,
 ) -> Made
-    requires { ⌜ (Good (length (now left)) (length (now right)) (length (now colour)) x) × ((p .slot < x .r) × (side < 2)) ⌝ }
-    ensures { λ r. ⌜ outcome r (now (left .exit)) (now (right .exit)) (now (colour .exit)) ≡ depart (state (now (left .entry)) (now (right .entry)) (now (colour .entry)) x) p (takeFirst (state (now (left .entry)) (now (right .entry)) (now (colour .entry)) x) side (edgeOf (now (left .entry) ∷ now (right .entry) ∷ []) 0 1)) ⌝ }
+    requires { ⌜ Good (length (now left)) (length (now right)) (length (now colour)) x ⌝ }
+    requires { ⌜ p .slot < x .r ⌝ }
+    requires { ⌜ side < 2 ⌝ }
+    ensures { λ r. ⌜ leaves r left right colour
+        ≡ depart (given left right colour x) p
+        (takeFirst (given left right colour x) side (edgeOf (was left ∷ was right ∷ []) 0 1)) ⌝ }
 {
     let from = places::walk(left, right, x.m, p);
     let Walk::At(n) = from else {
@@ -175,7 +195,8 @@ pub fn take(
     p: Place,
     side: u32,
 ) -> Made
-    ensures { λ r. ⌜ outcome r (now (left .exit)) (now (right .exit)) (now (colour .exit)) ≡ step (taking p side) (state (now (left .entry)) (now (right .entry)) (now (colour .entry)) x) ⌝ }
+    ensures { λ r. ⌜ leaves r left right colour
+        ≡ step (taking p side) (given left right colour x) ⌝ }
 {
     let code = take_code(left.len(), right.len(), colour.len(), x, p, side);
     if code != 0 {

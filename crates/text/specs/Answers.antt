@@ -12,7 +12,8 @@ digitOf n ten = pick (leb ten n) ((48 + n / ten % 10) ∷ []) []
 
 -- n below 100,000, in decimal
 unfoldable pub decimal : ℕ → List ℕ
-decimal n = digitOf n 10000 ++ digitOf n 1000 ++ digitOf n 100 ++ digitOf n 10 ++ ((48 + n % 10) ∷ [])
+decimal n =
+    digitOf n 10000 ++ digitOf n 1000 ++ digitOf n 100 ++ digitOf n 10 ++ ((48 + n % 10) ∷ [])
 
 -- an answer's line, with its newline
 unfoldable pub said : ℕ → ℕ → List ℕ
@@ -36,7 +37,8 @@ contents w = take (w .used) (w .out)
 
 -- one byte more, where there is room
 unfoldable pub put : Written → ℕ → Written
-put w b = pick (ltb (w .used) (length (w .out))) (written (set (w .out) (w .used) b) (w .used + 1)) w
+put w b =
+    pick (ltb (w .used) (length (w .out))) (written (set (w .out) (w .used) b) (w .used + 1)) w
 
 unfoldable pub putAll : Written → List ℕ → Written
 putAll w [] = w

@@ -46,19 +46,23 @@ isDigit b = every (leb 48 b ∷ leb b 57 ∷ [])
 unfoldable pub digitsAt : List ℕ → ℕ → ℕ → ℕ → Number
 digitsAt line zero n i = number n i
 digitsAt line (suc more) n i =
-    pick (isDigit (byteAt line i)) (digitsAt line more (n * 10 + (byteAt line i - 48)) (i + 1)) (number n i)
+    pick (isDigit (byteAt line i)) (digitsAt line more (n * 10 + (byteAt line i - 48)) (i + 1))
+    (number n i)
 
 -- [Program 4] a number
 unfoldable pub numberAt : List ℕ → ℕ → Number
 numberAt line i =
-    pick (isDigit (byteAt line i)) (pick (eqb (byteAt line i) 48) (number 0 (i + 1)) (digitsAt line 7 0 i)) (number 0 lost)
+    pick (isDigit (byteAt line i)) (pick (eqb (byteAt line i) 48) (number 0 (i + 1))
+    (digitsAt line 7 0 i)) (number 0 lost)
 
 abbrev pub side : ℕ → ℕ → Side
 side s i = record { side = s; at = i }
 
 -- [Program 6] a letter L or R, and its side [Table 12]
 unfoldable pub sideAt : List ℕ → ℕ → Side
-sideAt line i = pick (eqb (byteAt line i) 76) (side 0 (i + 1)) (pick (eqb (byteAt line i) 82) (side 1 (i + 1)) (side 0 lost))
+sideAt line i =
+    pick (eqb (byteAt line i) 76) (side 0 (i + 1))
+    (pick (eqb (byteAt line i) 82) (side 1 (i + 1)) (side 0 lost))
 
 abbrev pub turns : ℕ → ℕ → ℕ → Turns
 turns n word i = record { count = n; word = word; at = i }
@@ -68,7 +72,8 @@ unfoldable pub lettersAt : List ℕ → ℕ → ℕ → ℕ → ℕ → ℕ → 
 lettersAt line zero n word bit i = turns n word i
 lettersAt line (suc more) n word bit i =
     pick (eqb (sideAt line i .at) lost) (turns n word i)
-    (lettersAt line more (n + 1) ((word + sideAt line i .side * bit) % 4096) (bit * 2 % 4096) (sideAt line i .at))
+    (lettersAt line more (n + 1) ((word + sideAt line i .side * bit) % 4096) (bit * 2 % 4096)
+    (sideAt line i .at))
 
 -- [Program 5] turns
 unfoldable pub turnsAt : List ℕ → ℕ → Turns

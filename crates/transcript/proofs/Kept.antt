@@ -20,7 +20,8 @@ unfolding read
 long w h = pick-yes _ _ _ _ (lt-yes _ _ h) refl
 
 -- by the length
-cases : (P : List ℕ → Type 0) (w : List ℕ) → (length w ≤ keeps → P w) → (keeps < length w → P w) → P w
+cases : (P : List ℕ → Type 0) (w : List ℕ) → (length w ≤ keeps → P w) → (keeps < length w → P w)
+    → P w
 cases P w f g = go (leb (length w) keeps) refl
   where
     go : (b : Bool) → leb (length w) keeps ≡ b → P w
@@ -35,26 +36,37 @@ read-kept w =
 
 empty-kept : (w : List ℕ) → eqb (length (take keeps w)) 0 ≡ eqb (length w) 0
 empty-kept w =
-    cases (λ w. eqb (length (take keeps w)) 0 ≡ eqb (length w) 0) w (λ h. rw (take-all keeps w h)) (λ h.
+    cases (λ w. eqb (length (take keeps w)) 0 ≡ eqb (length w) 0) w (λ h. rw (take-all keeps w h))
+    (λ h.
     let n = length-take-le keeps w (omega arith) in
-    ne-eqb (length (take keeps w)) 0 (λ q. omega arith) ∙ sym (ne-eqb (length w) 0 (λ q. omega arith)))
+    ne-eqb (length (take keeps w)) 0 (λ q. omega arith)
+    ∙ sym (ne-eqb (length w) 0 (λ q. omega arith)))
 
 one-more : (w : List ℕ) (b : ℕ) → take keeps (take keeps w ++ (b ∷ [])) ≡ take keeps (w ++ (b ∷ []))
 one-more w b =
-    cases (λ w. take keeps (take keeps w ++ (b ∷ [])) ≡ take keeps (w ++ (b ∷ []))) w (λ h. rw (take-all keeps w h)) (λ h.
+    cases (λ w. take keeps (take keeps w ++ (b ∷ [])) ≡ take keeps (w ++ (b ∷ []))) w
+    (λ h. rw (take-all keeps w h)) (λ h.
     let n = length-take-le keeps w (omega arith) in
-    take-append-le keeps (take keeps w) (b ∷ []) (omega arith) ∙ take-take keeps keeps w (omega arith) ∙ sym (take-append-le keeps w (b ∷ []) (omega arith)))
+    take-append-le keeps (take keeps w) (b ∷ []) (omega arith)
+    ∙ take-take keeps keeps w (omega arith)
+    ∙ sym (take-append-le keeps w (b ∷ []) (omega arith)))
 
 pub kept : (s : State) (w input : List ℕ) → answers s (take keeps w) input ≡ answers s w input
 unfolding answers
 kept s w [] = rw (read-kept w, empty-kept w)
 kept s w (b ∷ input) =
-    let e = sym (kept s (take keeps w ++ (b ∷ [])) input) ∙ ap (λ (l : List ℕ). answers s l input) (one-more w b) ∙ kept s (w ++ (b ∷ [])) input in
+    let e =
+    sym (kept s (take keeps w ++ (b ∷ [])) input)
+    ∙ ap (λ (l : List ℕ). answers s l input) (one-more w b)
+    ∙ kept s (w ++ (b ∷ [])) input in
     rw (read-kept w, e)
 
 pub kept-first : (w input : List ℕ) → opening (take keeps w) input ≡ opening w input
 unfolding opening
 kept-first w [] = rw (read-kept w)
 kept-first w (b ∷ input) =
-    let e = sym (kept-first (take keeps w ++ (b ∷ [])) input) ∙ ap (λ (l : List ℕ). opening l input) (one-more w b) ∙ kept-first (w ++ (b ∷ [])) input in
+    let e =
+    sym (kept-first (take keeps w ++ (b ∷ [])) input)
+    ∙ ap (λ (l : List ℕ). opening l input) (one-more w b)
+    ∙ kept-first (w ++ (b ∷ [])) input in
     rw (read-kept w, e)

@@ -1,8 +1,8 @@
 -- A part that is lent: the first n elements of a list, or all where it has fewer.
-use Prim.Native.Nat.{ℕ, _-_, _≤_, _<_, min}
+use Prim.Native.Nat.{ℕ, _-_, _≤_, min}
 use mathlib.Core.Bool.{Bool, true, false}
 use mathlib.Core.Path.{_≡_, refl, sym, ap, _∙_}
-use mathlib.Core.List.{List, [], _++_, append-nil}
+use mathlib.Core.List.{List, _++_, append-nil}
 use native.Mathlib.Omega.{arith}
 use native.Mathlib.Nat.{sub-zero}
 use borrow.Author.Tests.{leb-true, leb-false}
@@ -11,10 +11,14 @@ use lib.Seq.{take-append-seam, drop-append-seam, take-at, drop-at, take-all, len
 use lib.Dec.{leb}
 
 pub front : (n : ℕ) (l : List ℕ) → take (min n (length l)) l ≡ take n l
-front n l = rw (← length-take n l) (ap (take (length (take n l))) (sym (take-append-drop n l)) ∙ take-append-seam (take n l) (drop n l))
+front n l =
+    rw (← length-take n l) (ap (take (length (take n l))) (sym (take-append-drop n l))
+    ∙ take-append-seam (take n l) (drop n l))
 
 back : (n : ℕ) (l : List ℕ) → drop (min n (length l)) l ≡ drop n l
-back n l = rw (← length-take n l) (ap (drop (length (take n l))) (sym (take-append-drop n l)) ∙ drop-append-seam (take n l) (drop n l))
+back n l =
+    rw (← length-take n l) (ap (drop (length (take n l))) (sym (take-append-drop n l))
+    ∙ drop-append-seam (take n l) (drop n l))
 
 -- the part comes back as p
 module _ (n : ℕ) (l p : List ℕ) (e : length p ≡ length (take n l)) where
@@ -26,7 +30,8 @@ module _ (n : ℕ) (l p : List ℕ) (e : length p ≡ length (take n l)) where
       go false q =
           let h = leb-false n (length l) q in
           let p₁ : length l ≤ n = omega arith in
-          rw (drop-of-length-le l {i = n} p₁, append-nil) (take-all n p (omega (arith, ap length (take-all n l (omega arith)))))
+          rw (drop-of-length-le l {i = n} p₁, append-nil)
+          (take-all n p (omega (arith, ap length (take-all n l (omega arith)))))
 
   same-back : drop n (p ++ drop n l) ≡ drop n l
   same-back = go (leb n (length l)) refl
@@ -36,7 +41,8 @@ module _ (n : ℕ) (l p : List ℕ) (e : length p ≡ length (take n l)) where
       go false q =
           let h = leb-false n (length l) q in
           let p₁ : length l ≤ n = omega arith in
-          rw (drop-of-length-le l {i = n} p₁, append-nil) (drop-of-length-le p {i = n} (omega (arith, ap length (take-all n l (omega arith)))))
+          rw (drop-of-length-le l {i = n} p₁, append-nil)
+          (drop-of-length-le p {i = n} (omega (arith, ap length (take-all n l (omega arith)))))
 
 -- a is how many were lent, and p what came back: the whole is the part and what lay behind it
 pub record Lent (n a : ℕ) (l p : List ℕ) : Type 0 where
@@ -44,8 +50,15 @@ pub record Lent (n a : ℕ) (l p : List ℕ) : Type 0 where
   pub first : take n (p ++ drop (a - 0) l) ≡ p
   pub rest : drop n (p ++ drop (a - 0) l) ≡ drop n l
 
-pub lent : (n a : ℕ) (l p : List ℕ) → a ≡ min n (length l) → length p ≡ length (take (a - 0) l) → Lent n a l p
+pub lent : (n a : ℕ) (l p : List ℕ) → a ≡ min n (length l) → length p ≡ length (take (a - 0) l)
+    → Lent n a l p
 lent n a l p e h =
     let z : a - 0 ≡ min n (length l) = sub-zero a ∙ e in
     let k : length p ≡ length (take n l) = h ∙ rw (z, front n l) in
-    record { given = rw z (front n l); first = rw (z, back n l) (same-front n l p k); rest = rw (z, back n l) (same-back n l p k) }
+    record {
+      given =
+          rw z (front n l);
+      first = rw (z, back n l) (same-front n l p k);
+      rest = rw (z, back n l)
+          (same-back n l p k);
+    }

@@ -1,5 +1,5 @@
--- The program as it reads and prints: blocks of the input, as they come, to the output of each. All is in buffers: the program's own tables, the line at
--- hand and the output.
+-- The program as it reads and prints: blocks of the input, as they come, to the output of each. All
+-- is in buffers: the program's own tables, the line at hand and the output.
 use Rattle.base.specs.Choice.{pick}
 use Prim.Native.Nat.{ℕ, _+_, _-_}
 use mathlib.Core.Bool.{Bool, true, false}
@@ -7,9 +7,9 @@ use mathlib.Core.List.{List, [], _∷_, _++_}
 use lib.ListN.{length, getD, take, drop}
 use lib.Dec.{ltb, eqb}
 use Rattle.rules.specs.Table.{State, state}
-use Rattle.rules.specs.Fresh.{freshRecord}
+use Rattle.rules.specs.Records.{freshRecord}
 use Rattle.text.specs.Grammar.{read}
-use Rattle.text.specs.Answers.{Written, written, contents, put, putAll}
+use Rattle.text.specs.Answers.{Written, written, contents, putAll}
 use Rattle.lines.specs.Lines.{later, opened}
 use Rattle.transcript.specs.Transcript.{printed, newline}
 use Rattle.transcript.specs.declared.Run.{Run}
@@ -34,7 +34,12 @@ pub record Going : Type 0 where
   pub out : Written
 
 abbrev pub going : Run → List ℕ → List ℕ → List ℕ → List ℕ → List ℕ → Going
-going g l r c line out = record { state = state l r c (g .rec); line = written line (g .at); out = written out (g .used) }
+going g l r c line out = record {
+  state =
+      state l r c (g .rec);
+  line = written line (g .at);
+  out = written out (g .used);
+}
 
 -- the line at hand with these bytes more
 abbrev pub gathered : Going → List ℕ → Going
@@ -72,8 +77,9 @@ nextLine input i g =
     let h = gathered g (take (n - i) (drop i input)) in
     pick (ltb n (length input)) (taken (n + 1) (ended h)) (taken n h)
 
--- all that a block finds and leaves: whether the first line is awaited, the table is served or the run is over; the table, which is in the first
--- entries of the program's own, with the line and the output; and what lies behind it in the program's own tables
+-- all that a block finds and leaves: whether the first line is awaited, the table is served or the
+-- run is over; the table, which is in the first entries of the program's own, with the line and the
+-- output; and what lies behind it in the program's own tables
 pub record Stand : Type 0 where
   pub stage : Stage
   pub going : Going
@@ -92,20 +98,41 @@ placed stage s line out =
     let m = held stage in
     let l = getD (s .edges) 0 [] in
     let k = getD (s .edges) 1 [] in
-    record { stage = stage; going = record { state = state (take m l) (take m k) (take m (s .colour)) (s .rec); line = line; out = out }; left = drop m l; right = drop m k; colour = drop m (s .colour) }
+    record {
+      stage =
+          stage;
+      going = record {
+        state = state (take m l) (take m k) (take m (s .colour)) (s .rec);
+        line = line;
+        out = out;
+      };
+      left = drop m l;
+      right = drop m k;
+      colour = drop m (s .colour);
+    }
 
 abbrev pub stand : Session → List ℕ → List ℕ → List ℕ → List ℕ → List ℕ → Stand
-stand s l r c line out = placed (s .stage) (state l r c (s .run .rec)) (written line (s .run .at)) (written out (s .run .used))
+stand s l r c line out =
+    placed (s .stage) (state l r c (s .run .rec)) (written line (s .run .at))
+    (written out (s .run .used))
 
 -- the same with other lines
 abbrev pub turned : Stand → Going → Stand
-turned s g = record { stage = s .stage; going = g; left = s .left; right = s .right; colour = s .colour }
+turned s g = record {
+  stage =
+      s .stage;
+  going = g;
+  left = s .left;
+  right = s .right;
+  colour = s .colour;
+}
 
 -- [Program 10] the first line is at its end: it is answered, and ends the run where it is refused
 unfoldable pub begun : Stand → Stand
 begun s =
     let t = opened (read (contents (s .going .line))) (s .left) (s .right) (s .colour) in
-    placed (pick (eqb (t .code) 0) (Serving (t .state .rec .m)) Over) (t .state) (written (s .going .line .out) 0) (putAll (s .going .out) (printed t))
+    placed (pick (eqb (t .code) 0) (Serving (t .state .rec .m)) Over) (t .state)
+    (written (s .going .line .out) 0) (putAll (s .going .out) (printed t))
 
 unfoldable pub eaten : Stage → Stand → ℕ → Stand
 eaten Opening s b = pick (eqb b newline) (begun s) (turned s (gathered (s .going) (b ∷ [])))
@@ -118,7 +145,14 @@ eats s b = eaten (s .stage) s b
 
 -- the output is empty again
 abbrev pub emptied : Stand → Stand
-emptied s = turned s (record { state = s .going .state; line = s .going .line; out = written (s .going .out .out) 0 })
+emptied s =
+    turned s
+    (record {
+      state = s .going .state;
+      line = s .going .line;
+      out = written (s .going .out .out)
+          0;
+    })
 
 -- a block of the input
 unfoldable pub block : List ℕ → Stand → Stand

@@ -1,4 +1,5 @@
-// The schedule program without its reading and writing: a block of the input to its output. The transcript's definition is in specs/.
+// The schedule program without its reading and writing: a block of the input to its output. The
+// transcript's definition is in specs/.
 use lines::Told;
 use rules::Owed;
 use rules::Phase;
@@ -10,15 +11,20 @@ ghost use lib.ListN.{length, take, drop};
 ghost use Rattle.rules.specs.Table.{state};
 ghost use Rattle.text.specs.Grammar.{read};
 ghost use Rattle.text.specs.Answers.{written};
-ghost use Rattle.lines.specs.Lines.{prints, later, opened};
-ghost use Rattle.transcript.specs.Feeding.{fold, going, ended, nextByte, fed, newlineFrom, nextLine, placed, stand, begun, eats, emptied, block, bare, finish, turn, isOver, started};
+ghost use Rattle.lines.specs.Lines.{prints, later};
+ghost use Rattle.transcript.specs.Feeding.{fold, going, ended, nextByte, fed, newlineFrom};
+ghost use Rattle.transcript.specs.Feeding.{nextLine, placed, stand, begun, eats, emptied};
+ghost use Rattle.transcript.specs.Feeding.{block, bare, finish, turn, isOver, started};
+ghost use Rattle.base.specs.Lent.{was, is};
+ghost use Rattle.rules.specs.Lent.{given};
 
 // The bytes of a line that are kept: one more than a line may have.
 pub const LINE: usize = 81;
 
 const NEWLINE: u8 = 10;
 
-// What goes on from line to line beside the buffers: the record, the bytes of the line at hand, and those of the output that are used.
+// What goes on from line to line beside the buffers: the record, the bytes of the line at hand, and
+// those of the output that are used.
 pub struct Run {
     pub rec: Record,
     pub at: usize,
@@ -31,7 +37,8 @@ pub struct Fed {
     pub run: Run,
 }
 
-// The first line is awaited; a table of so many nodes is served; the run is over, since the first line is refused.
+// The first line is awaited; a table of so many nodes is served; the run is over, since the first
+// line is refused.
 pub enum Stage {
     Opening,
     Serving(usize),
@@ -62,7 +69,8 @@ fn later_of(
     line: &[u8],
     n: usize,
 ) -> Told
-    ensures { λ t. ⌜ prints (t .code) (t .node) (state (now (left .exit)) (now (right .exit)) (now (colour .exit)) (t .rec)) ≡ later (read (take n (now (line .entry)))) (state (now (left .entry)) (now (right .entry)) (now (colour .entry)) x) ⌝ }
+    ensures { λ t. ⌜ prints (t .code) (t .node) (state (is left) (is right) (is colour) (t .rec))
+        ≡ later (read (take n (was line))) (given left right colour x) ⌝ }
 {
     let end = least(n, line.len());
     lines::later(left, right, colour, x, &line[0..end])
@@ -77,7 +85,8 @@ fn ended(
     out: &mut [u8],
     g: Run,
 ) -> Run
-    ensures { λ r. ⌜ going r (now (left .exit)) (now (right .exit)) (now (colour .exit)) (now (line .entry)) (now (out .exit)) ≡ ended (going g (now (left .entry)) (now (right .entry)) (now (colour .entry)) (now (line .entry)) (now (out .entry))) ⌝ }
+    ensures { λ r. ⌜ going r (is left) (is right) (is colour) (was line) (is out)
+        ≡ ended (going g (was left) (was right) (was colour) (was line) (was out)) ⌝ }
 {
     let x = g.rec;
     let told = later_of(left, right, colour, x, line, g.at);
@@ -91,7 +100,7 @@ fn ended(
 
 // The position of the first newline from position i on, or the input's length.
 fn newline_from(input: &[u8], i: usize) -> usize
-    ensures { λ r. ⌜ r ≡ newlineFrom (drop i (now (input .entry))) i ⌝ }
+    ensures { λ r. ⌜ r ≡ newlineFrom (drop i (was input)) i ⌝ }
 {
     let mut at = i;
     while at < input.len() {
@@ -103,7 +112,8 @@ fn newline_from(input: &[u8], i: usize) -> usize
     at
 }
 
-// The bytes from position i on up to a newline, and with it the line's answer; or all that are left.
+// The bytes from position i on up to a newline, and with it the line's answer; or all that are
+// left.
 fn next_line(
     left: &mut [u16],
     right: &mut [u16],
@@ -115,7 +125,9 @@ fn next_line(
     i: usize,
 ) -> Fed
     requires { ⌜ i < length (now input) ⌝ }
-    ensures { λ f. ⌜ fed f (now (left .exit)) (now (right .exit)) (now (colour .exit)) (now (line .exit)) (now (out .exit)) ≡ nextLine (now (input .entry)) i (going g (now (left .entry)) (now (right .entry)) (now (colour .entry)) (now (line .entry)) (now (out .entry))) ⌝ }
+    ensures { λ f. ⌜ fed f (is left) (is right) (is colour) (is line) (is out)
+        ≡ nextLine (was input) i (going g (was left) (was right) (was colour) (was line)
+        (was out)) ⌝ }
 {
     let end = newline_from(input, i);
     let at = text::put_all(line, g.at, &input[i..end]);
@@ -143,7 +155,9 @@ fn feed(
     input: &[u8],
     i: usize,
 ) -> Run
-    ensures { λ r. ⌜ going r (now (left .exit)) (now (right .exit)) (now (colour .exit)) (now (line .exit)) (now (out .exit)) ≡ fold nextByte (drop i (now (input .entry))) (going g (now (left .entry)) (now (right .entry)) (now (colour .entry)) (now (line .entry)) (now (out .entry))) ⌝ }
+    ensures { λ r. ⌜ going r (is left) (is right) (is colour) (is line) (is out)
+        ≡ fold nextByte (drop i (was input))
+        (going g (was left) (was right) (was colour) (was line) (was out)) ⌝ }
 {
     let mut run = g;
     let mut next = i;
@@ -167,7 +181,10 @@ fn serve(
     input: &[u8],
     i: usize,
 ) -> Session
-    ensures { λ s. ⌜ stand s (now (left .exit)) (now (right .exit)) (now (colour .exit)) (now (line .exit)) (now (out .exit)) ≡ fold eats (drop i (now (input .entry))) (placed (Stage.Serving m) (state (now (left .entry)) (now (right .entry)) (now (colour .entry)) (g .rec)) (written (now (line .entry)) (g .at)) (written (now (out .entry)) (g .used))) ⌝ }
+    ensures { λ s. ⌜ stand s (is left) (is right) (is colour) (is line) (is out)
+        ≡ fold eats (drop i (was input))
+        (placed (Stage.Serving m) (given left right colour (g .rec))
+        (written (was line) (g .at)) (written (was out) (g .used))) ⌝ }
 {
     let a = least(m, left.len());
     let b = least(m, right.len());
@@ -186,7 +203,8 @@ fn serve(
     Session { stage, run }
 }
 
-// The first line is at its end: it is answered, and the table that it begins is served unless it is refused.
+// The first line is at its end: it is answered, and the table that it begins is served unless it is
+// refused.
 fn begin(
     left: &mut [u16],
     right: &mut [u16],
@@ -195,7 +213,9 @@ fn begin(
     out: &mut [u8],
     g: Run,
 ) -> Session
-    ensures { λ s. ⌜ stand s (now (left .exit)) (now (right .exit)) (now (colour .exit)) (now (line .entry)) (now (out .exit)) ≡ begun (placed Stage.Opening (state (now (left .entry)) (now (right .entry)) (now (colour .entry)) (g .rec)) (written (now (line .entry)) (g .at)) (written (now (out .entry)) (g .used))) ⌝ }
+    ensures { λ s. ⌜ stand s (is left) (is right) (is colour) (was line) (is out)
+        ≡ begun (placed Stage.Opening (given left right colour (g .rec))
+        (written (was line) (g .at)) (written (was out) (g .used))) ⌝ }
 {
     let end = least(g.at, line.len());
     let told = lines::first(left, right, colour, &line[0..end]);
@@ -221,8 +241,10 @@ fn go_on(
     input: &[u8],
     i: usize,
 ) -> Session
-    requires { ⌜ (s .stage ≡ Stage.Opening → ⊥) ⌝ }
-    ensures { λ t. ⌜ stand t (now (left .exit)) (now (right .exit)) (now (colour .exit)) (now (line .exit)) (now (out .exit)) ≡ fold eats (drop i (now (input .entry))) (stand s (now (left .entry)) (now (right .entry)) (now (colour .entry)) (now (line .entry)) (now (out .entry))) ⌝ }
+    requires { ⌜ s .stage ≡ Stage.Opening → ⊥ ⌝ }
+    ensures { λ t. ⌜ stand t (is left) (is right) (is colour) (is line) (is out)
+        ≡ fold eats (drop i (was input))
+        (stand s (was left) (was right) (was colour) (was line) (was out)) ⌝ }
 {
     let stage = s.stage;
     let run = s.run;
@@ -243,7 +265,9 @@ fn opening(
     g: Run,
     input: &[u8],
 ) -> Session
-    ensures { λ s. ⌜ stand s (now (left .exit)) (now (right .exit)) (now (colour .exit)) (now (line .exit)) (now (out .exit)) ≡ fold eats (now (input .entry)) (placed Stage.Opening (state (now (left .entry)) (now (right .entry)) (now (colour .entry)) (g .rec)) (written (now (line .entry)) (g .at)) (written (now (out .entry)) (g .used))) ⌝ }
+    ensures { λ s. ⌜ stand s (is left) (is right) (is colour) (is line) (is out)
+        ≡ fold eats (was input) (placed Stage.Opening (given left right colour (g .rec))
+        (written (was line) (g .at)) (written (was out) (g .used))) ⌝ }
 {
     let end = newline_from(input, 0);
     let at = text::put_all(line, g.at, &input[0..end]);
@@ -263,7 +287,8 @@ fn opening(
 
 // The output is empty again.
 fn emptied(s: Session) -> Session
-    ensures { λ t. ⌜ ((l r c line out : List ℕ) → stand t l r c line out ≡ emptied (stand s l r c line out)) ⌝ }
+    ensures { λ t. ⌜ ((l r c line out : List ℕ) → stand t l r c line out
+        ≡ emptied (stand s l r c line out)) ⌝ }
 {
     let g = s.run;
     let rec = g.rec;
@@ -313,7 +338,8 @@ pub fn is_over(s: Session) -> bool
     }
 }
 
-// A block of the input: what it prints is put into the output, from its start, as far as there is room.
+// A block of the input: what it prints is put into the output, from its start, as far as there is
+// room.
 pub fn block(
     left: &mut [u16],
     right: &mut [u16],
@@ -323,7 +349,8 @@ pub fn block(
     s: Session,
     input: &[u8],
 ) -> Session
-    ensures { λ t. ⌜ stand t (now (left .exit)) (now (right .exit)) (now (colour .exit)) (now (line .exit)) (now (out .exit)) ≡ block (now (input .entry)) (stand s (now (left .entry)) (now (right .entry)) (now (colour .entry)) (now (line .entry)) (now (out .entry))) ⌝ }
+    ensures { λ t. ⌜ stand t (is left) (is right) (is colour) (is line) (is out)
+        ≡ block (was input) (stand s (was left) (was right) (was colour) (was line) (was out)) ⌝ }
 {
     let e = emptied(s);
     let run = e.run;
@@ -357,7 +384,8 @@ pub fn finish(
     out: &mut [u8],
     s: Session,
 ) -> Session
-    ensures { λ t. ⌜ stand t (now (left .exit)) (now (right .exit)) (now (colour .exit)) (now (line .exit)) (now (out .exit)) ≡ finish (stand s (now (left .entry)) (now (right .entry)) (now (colour .entry)) (now (line .entry)) (now (out .entry))) ⌝ }
+    ensures { λ t. ⌜ stand t (is left) (is right) (is colour) (is line) (is out)
+        ≡ finish (stand s (was left) (was right) (was colour) (was line) (was out)) ⌝ }
 {
     if bare(s) {
         return emptied(s);
@@ -376,7 +404,9 @@ pub fn turn(
     input: &[u8],
     n: usize,
 ) -> Session
-    ensures { λ t. ⌜ stand t (now (left .exit)) (now (right .exit)) (now (colour .exit)) (now (line .exit)) (now (out .exit)) ≡ turn n (now (input .entry)) (stand s (now (left .entry)) (now (right .entry)) (now (colour .entry)) (now (line .entry)) (now (out .entry))) ⌝ }
+    ensures { λ t. ⌜ stand t (is left) (is right) (is colour) (is line) (is out)
+        ≡ turn n (was input) (stand s (was left) (was right) (was colour) (was line) (was out))
+        ⌝ }
 {
     if n == 0 {
         return finish(left, right, colour, line, out, s);

@@ -1,4 +1,5 @@
--- Words and records correspond: a record's words give the record back, and words that are a record's are that record's words.
+-- Words and records correspond: a record's words give the record back, and words that are a
+-- record's are that record's words.
 use Prim.Native.Nat.{ℕ, zero, suc, _+_, _≤_}
 use native.Mathlib.Omega.{arith}
 use mathlib.Core.Bool.{Bool, true, false}
@@ -7,7 +8,7 @@ use mathlib.Core.Path.{_≡_, refl, sym, ap, _∙_}
 use lib.Dec.{eqb}
 use lib.ListN.{length, drop, drop-of-length-le}
 use lib.Seq.{drop-cons}
-use borrow.Author.Tests.{eqb-true, eqb-false, leb-true}
+use borrow.Author.Tests.{eqb-true, eqb-false}
 use Rattle.base.specs.Choice.{pick}
 use Rattle.base.proofs.Tests.{each, facts, split}
 use Rattle.rules.specs.Records.{position}
@@ -16,7 +17,8 @@ use Rattle.rules.specs.declared.Phase.{Phase}
 use Rattle.rules.specs.declared.Phase.the-variants.{Roots, Scan, Left, Right, Black, Append}
 use Rattle.rules.specs.declared.Owed.{Owed}
 use Rattle.rules.specs.declared.Owed.the-variants.{Nothing, Node}
-use Rattle.words.specs.Words.{word, tagOf, kOf, owesOf, owedOf, wordsOf, phaseOf, shadeOf, recordOf, flagged, isRecord}
+use Rattle.words.specs.Words.{word, tagOf, kOf, owesOf, owedOf, wordsOf, phaseOf, shadeOf}
+use Rattle.words.specs.Words.{recordOf, flagged, isRecord}
 use Rattle.words.proofs.Widths.{widths}
 
 phase-back : (p : Phase) → phaseOf (tagOf p) (position p) (kOf p) ≡ p
@@ -62,12 +64,28 @@ module _ (tag i k : ℕ) (at-most : tag ≤ 5) (e : true ≡ flagged tag k) wher
   pub phase-there : SamePhase tag i k (phaseOf tag i k)
   unfolding phaseOf
   phase-there =
-      split (SamePhase tag i k) (eqb tag 0) _ _ (λ a. same (Roots i) (sym (eqb-true _ _ a)) refl (no-k (λ z. omega (facts, eqb-true tag 0 a)))) (λ a.
-      split (SamePhase tag i k) (eqb tag 1) _ _ (λ b. same (Scan i k) (sym (eqb-true _ _ b)) refl refl) (λ b.
-      split (SamePhase tag i k) (eqb tag 2) _ _ (λ d. same (Left i) (sym (eqb-true _ _ d)) refl (no-k (eqb-false tag 1 b))) (λ d.
-      split (SamePhase tag i k) (eqb tag 3) _ _ (λ f. same (Right i) (sym (eqb-true _ _ f)) refl (no-k (eqb-false tag 1 b))) (λ f.
-      split (SamePhase tag i k) (eqb tag 4) _ _ (λ g. same (Black i) (sym (eqb-true _ _ g)) refl (no-k (eqb-false tag 1 b))) (λ g.
-      same (Append i) (omega (arith, at-most, eqb-false tag 0 a, eqb-false tag 1 b, eqb-false tag 2 d, eqb-false tag 3 f, eqb-false tag 4 g)) refl (no-k (eqb-false tag 1 b)))))))
+      split (SamePhase tag i k) (eqb tag 0) _ _
+      (λ a. same (Roots i) (sym (eqb-true _ _ a)) refl
+      (no-k (λ z. omega (facts, eqb-true tag 0 a)))) (λ a.
+      split (SamePhase tag i k) (eqb tag 1) _ _
+      (λ b. same (Scan i k) (sym (eqb-true _ _ b)) refl refl) (λ b.
+      split (SamePhase tag i k) (eqb tag 2) _ _
+      (λ d. same (Left i) (sym (eqb-true _ _ d)) refl (no-k (eqb-false tag 1 b))) (λ d.
+      split (SamePhase tag i k) (eqb tag 3) _ _
+      (λ f. same (Right i) (sym (eqb-true _ _ f)) refl (no-k (eqb-false tag 1 b))) (λ f.
+      split (SamePhase tag i k) (eqb tag 4) _ _
+      (λ g. same (Black i) (sym (eqb-true _ _ g)) refl (no-k (eqb-false tag 1 b))) (λ g.
+      same (Append i)
+      (omega (
+        arith,
+        at-most,
+        eqb-false tag 0 a,
+        eqb-false tag 1 b,
+        eqb-false tag 2 d,
+        eqb-false
+            tag 3 f,
+        eqb-false tag 4 g,
+      )) refl (no-k (eqb-false tag 1 b)))))))
 
 pub record SameOwed (owes n : ℕ) (o : Owed) : Type 0 where
   pub owes-is : owesOf o ≡ owes
@@ -77,7 +95,11 @@ owed-there : (owes n : ℕ) → owes ≤ 1 → true ≡ flagged owes n → SameO
 unfolding shadeOf
 owed-there owes n one e =
     split (SameOwed owes n) (eqb owes 0) _ _
-    (λ a. record { owes-is = sym (eqb-true _ _ a); n-is = none-given owes n e (λ z. omega (facts, eqb-true owes 0 a)) })
+    (λ a. record {
+      owes-is = sym (eqb-true _ _ a);
+      n-is = none-given owes n e
+          (λ z. omega (facts, eqb-true owes 0 a));
+    })
     (λ a. record { owes-is = omega (arith, one, eqb-false owes 0 a); n-is = refl })
 
 -- the k words of w from the n-th on
@@ -87,7 +109,8 @@ part w n (suc k) = word w n ∷ part w (suc n) k
 
 parts : (w : List ℕ) (k n : ℕ) → n + k ≡ length w → drop n w ≡ part w n k
 parts w zero n e = drop-of-length-le w {i = n} (omega arith)
-parts w (suc k) n e = drop-cons w n 0 (omega arith) ∙ ap (λ (v : List ℕ). word w n ∷ v) (parts w k (suc n) (omega arith))
+parts w (suc k) n e = drop-cons w n 0 (omega arith)
+    ∙ ap (λ (v : List ℕ). word w n ∷ v) (parts w k (suc n) (omega arith))
 
 -- a word that has no use
 none : (n : ℕ) → n ≤ 0 → 0 ≡ n

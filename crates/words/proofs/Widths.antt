@@ -1,31 +1,36 @@
--- Words that are a record's: each has its width. And the other way round: a record whose numbers have their widths has a record's words.
+-- Words that are a record's: each has its width. And the other way round: a record whose numbers
+-- have their widths has a record's words.
 use Prim.Native.Nat.{ℕ, zero, suc, _+_, _<_, _≤_}
 use native.Mathlib.Numerals.{add-one}
 use native.Mathlib.Omega.{arith}
 use mathlib.Core.Bool.{Bool, true, false, false≢true}
 use mathlib.Core.List.{List, [], _∷_}
-use mathlib.Core.Path.{_≡_, refl, sym, subst, _∙_}
+use mathlib.Core.Path.{_≡_, refl, sym, subst}
 use lib.Dec.{leb, eqb}
 use borrow.Author.Tests.{leb-true, eqb-true, eqb-false}
 use Rattle.base.specs.Choice.{every}
-use Rattle.base.proofs.Tests.{each, every-here, every-skip, every-last, eq-yes, le-yes, le-no, tests}
+use Rattle.base.proofs.Tests.{each, every-here, every-skip, every-last, eq-yes, le-yes, le-no}
+use Rattle.base.proofs.Tests.{tests}
 use Rattle.rules.specs.declared.Record.{Record}
 use Rattle.rules.specs.declared.Phase.{Phase}
 use Rattle.rules.specs.declared.Phase.the-variants.{Roots, Scan, Left, Right, Black, Append}
 use Rattle.rules.specs.declared.Owed.{Owed}
 use Rattle.rules.specs.declared.Owed.the-variants.{Nothing, Node}
-use Rattle.words.specs.Words.{word, tagOf, kOf, owesOf, owedOf, wordsOf, most, within, flagged, isRecord, Within}
+use Rattle.words.specs.Words.{word, tagOf, kOf, owesOf, owedOf, wordsOf, most, within}
+use Rattle.words.specs.Words.{flagged, isRecord, Within}
 
 pub none-within : (w : List ℕ) → true ≡ within w 0
 unfolding within
 none-within w = refl
 
-one-more : (w : List ℕ) (n : ℕ) → true ≡ within w n → word w n ≤ word most n → true ≡ within w (suc n)
+one-more : (w : List ℕ) (n : ℕ) → true ≡ within w n → word w n ≤ word most n → true
+    ≡ within w (suc n)
 unfolding within
 one-more w n h k = every-skip _ _ _ h (every-last _ _ (le-yes _ _ k))
 
 -- a turn over the words, top being `most`
-pub goes-on : (w top : List ℕ) (n : ℕ) → top ≡ most → true ≡ within w n → word w n ≤ word top n → true ≡ within w (n + 1)
+pub goes-on : (w top : List ℕ) (n : ℕ) → top ≡ most → true ≡ within w n → word w n ≤ word top n
+    → true ≡ within w (n + 1)
 goes-on w top n e h k = rw (add-one n) (one-more w n h (rw e at k))
 
 later-no : (a b : Bool) → false ≡ b → false ≡ every (a ∷ b ∷ [])
@@ -40,11 +45,13 @@ unfolding within
 exceeds w n zero h q = absurd (omega arith)
 exceeds w n (suc k) h q = go (eqb n k) refl (λ l. exceeds w n k l q)
   where
-    go : (b : Bool) → eqb n k ≡ b → (n < k → false ≡ within w k) → false ≡ every (within w k ∷ leb (word w k) (word most k) ∷ [])
+    go : (b : Bool) → eqb n k ≡ b → (n < k → false ≡ within w k) → false
+        ≡ every (within w k ∷ leb (word w k) (word most k) ∷ [])
     go true e f = let z = eqb-true n k e in later-no _ _ (rw (← z) (le-no _ _ q))
     go false e f = let z = eqb-false n k e in every-here _ _ (f (omega arith))
 
-pub stops : (w top : List ℕ) (n : ℕ) → top ≡ most → n < 16 → word top n < word w n → false ≡ within w 16
+pub stops : (w top : List ℕ) (n : ℕ) → top ≡ most → n < 16 → word top n < word w n → false
+    ≡ within w 16
 stops w top n e h q = exceeds w n 16 h (rw e at q)
 
 -- the tests as facts
@@ -88,7 +95,8 @@ unfolding flagged
 owed-flagged Nothing = search tests
 owed-flagged (Node n) = search tests
 
-pub words-are : (x : Record) (w : List ℕ) → w ≡ wordsOf x → Within (wordsOf x) 16 → (w ≡ wordsOf x) × (true ≡ isRecord w)
+pub words-are : (x : Record) (w : List ℕ) → w ≡ wordsOf x → Within (wordsOf x) 16
+    → (w ≡ wordsOf x) × (true ≡ isRecord w)
 unfolding isRecord
 words-are x w q h = (q, subst (λ (v : List ℕ). true ≡ isRecord v) (sym q) all)
   where

@@ -44,10 +44,13 @@ owedOf (Node n) = n
 -- the words of a record; its phase is told by tag, i and k, its shade by owes and n
 abbrev pub laidOut : Record → ℕ → ℕ → ℕ → ℕ → ℕ → List ℕ
 laidOut x tag i k owes n =
-    x .m ∷ x .r ∷ tag ∷ i ∷ k ∷ owes ∷ n ∷ x .last ∷ x .steps ∷ x .cycles ∷ x .took ∷ x .blackened ∷ x .inuse ∷ 0 ∷ 0 ∷ 0 ∷ []
+    x .m ∷ x .r ∷ tag ∷ i ∷ k ∷ owes ∷ n ∷ x .last ∷ x .steps ∷ x .cycles ∷ x .took ∷ x .blackened ∷
+    x .inuse ∷ 0 ∷ 0 ∷ 0 ∷ []
 
 abbrev pub wordsOf : Record → List ℕ
-wordsOf x = laidOut x (tagOf (x .phase)) (position (x .phase)) (kOf (x .phase)) (owesOf (x .owed)) (owedOf (x .owed))
+wordsOf x =
+    laidOut x (tagOf (x .phase)) (position (x .phase)) (kOf (x .phase)) (owesOf (x .owed))
+    (owedOf (x .owed))
 
 unfoldable pub phaseOf : ℕ → ℕ → ℕ → Phase
 phaseOf tag i k =
@@ -89,7 +92,8 @@ large = 4294967295
 -- The most that each word may be, in their order; 0 for those that have no use.
 abbrev pub most : List ℕ
 most =
-    small ∷ small ∷ 5 ∷ small ∷ small ∷ 1 ∷ small ∷ small ∷ large ∷ large ∷ large ∷ small ∷ small ∷ 0 ∷ 0 ∷ 0 ∷ []
+    small ∷ small ∷ 5 ∷ small ∷ small ∷ 1 ∷ small ∷ small ∷ large ∷ large ∷ large ∷ small ∷ small ∷
+    0 ∷ 0 ∷ 0 ∷ []
 
 -- the first n words are at most that
 unfoldable pub within : List ℕ → ℕ → Bool
@@ -104,7 +108,8 @@ flagged flag n = pick (eqb flag 1) true (eqb n 0)
 -- where one is owed
 unfoldable pub isRecord : List ℕ → Bool
 isRecord w =
-    every (eqb (length w) 16 ∷ within w 16 ∷ flagged (word w 2) (word w 4) ∷ flagged (word w 5) (word w 6) ∷ [])
+    every (eqb (length w) 16 ∷ within w 16 ∷ flagged (word w 2) (word w 4) ∷ flagged (word w 5)
+    (word w 6) ∷ [])
 
 -- the same as facts: what the first n words are
 abbrev pub Within : List ℕ → ℕ → Type 0

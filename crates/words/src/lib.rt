@@ -4,7 +4,9 @@ use rules::Phase;
 use rules::Record;
 ghost use mathlib.Core.Path.{_≡_};
 ghost use mathlib.Core.Bool.{true};
-ghost use Rattle.words.specs.Words.{tagOf, kOf, owesOf, owedOf, laidOut, wordsOf, phaseOf, shadeOf, pickedUp, recordOf, most, within, flagged, isRecord, Within};
+ghost use Rattle.words.specs.Words.{tagOf, kOf, owesOf, owedOf, laidOut, wordsOf, phaseOf};
+ghost use Rattle.words.specs.Words.{shadeOf, pickedUp, recordOf, most, within, flagged};
+ghost use Rattle.words.specs.Words.{isRecord, Within};
 
 fn tag(p: Phase) -> u32
     ensures { λ n. ⌜ n ≡ tagOf p ⌝ }

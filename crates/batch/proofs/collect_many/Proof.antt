@@ -1,4 +1,3 @@
-use Prim.Native.Nat.{_-_}
 use mathlib.Core.Path.{sym, _∙_}
 use native.Mathlib.Omega.{arith}
 use borrow.Author.Needs.{needs}
@@ -15,10 +14,18 @@ returns : tie.Need-returns
 returns c = unscheduled _ _ _ (c .before .check .ensures) (c .if1 .taken)
 
 bound-requires : tie.Need-bound-requires
-bound-requires c κs = let g = good _ _ _ _ (sym (c .before .before .before .if1 .left) ∙ c .before .before .before .before .check .ensures) in omega arith
+bound-requires c κs = let g =
+    good _ _ _ _ (sym (c .before .before .before .if1 .left)
+    ∙ c .before .before .before .before .check .ensures) in omega arith
 
 turns-requires : tie.Need-turns-requires
-turns-requires c κs = (record { code = sym (c .before .before .before .before .if1 .left) ∙ c .before .before .before .before .before .check .ensures }, c .bound .ensures)
+turns-requires c κs = (
+  record {
+    code = sym (c .before .before .before .before .if1 .left)
+        ∙ c .before .before .before .before .before .check .ensures;
+  },
+  c .bound .ensures,
+)
 
 same-length : tie.Need-same-length
 same-length c = search needs
@@ -30,7 +37,12 @@ same-length-3 : tie.Need-same-length-3
 same-length-3 c = search needs
 
 returns-2 : tie.Need-returns-2
-returns-2 c = scheduled _ _ _ _ _ (record { code = sym (c .before .before .before .before .before .before .before .before .before .before .before .if1 .left) ∙ c .before .before .before .before .before .before .before .before .before .before .before .before .check .ensures }) (c .before .before .before .before .before .before .turns .ensures)
+returns-2 c =
+    let at-turns = c .before .before .before .before .before .before in
+    let at-if1 = at-turns .before .before .before .before .before in
+    let at-check = at-if1 .before in
+    scheduled _ _ _ _ _ (record { code = sym (at-if1 .if1 .left) ∙ at-check .check .ensures })
+    (at-turns .turns .ensures)
 
 pub collect-many-spec : {M : Type 1} → statement M
 collect-many-spec =

@@ -1,4 +1,3 @@
-use Prim.Native.Nat.{_-_}
 use mathlib.Core.Path.{refl}
 use native.Mathlib.Omega.{arith}
 use borrow.Author.Needs.{needs}
@@ -7,10 +6,14 @@ use Rattle.batch.proofs.turn.Statement.{statement}
 use Rattle.batch.proofs.turn.Tie as tie
 
 sub-near : tie.Need-sub-near
-sub-near c = let h = steps-in _ _ _ _ _ (c .before .before .before .pre .0) (c .before .before .before .pre .1) in omega arith
+sub-near c = let h =
+    steps-in _ _ _ _ _ (c .before .before .before .pre .0) (c .before .before .before .pre .1) in
+    omega arith
 
 sub-near-2 : tie.Need-sub-near-2
-sub-near-2 c = let h = steps-in _ _ _ _ _ (c .before .before .before .before .pre .0) (c .before .before .before .before .pre .1) in omega arith
+sub-near-2 c = let h =
+    steps-in _ _ _ _ _ (c .before .before .before .before .pre .0)
+    (c .before .before .before .before .pre .1) in omega arith
 
 cast-least : tie.Need-cast-least
 cast-least c = search needs
@@ -19,10 +22,17 @@ least-requires : tie.Need-least-requires
 least-requires c κs = search needs
 
 stride-requires : tie.Need-stride-requires
-stride-requires c κs = let h = steps-in _ _ _ _ _ (c .before .before .before .before .before .before .before .before .pre .0) (c .before .before .before .before .before .before .before .before .pre .1) in (c .before .before .before .before .before .before .before .before .pre .0, room _ _ _ (c .before .before .before .before .before .before .before .before .pre .1) (omega arith))
+stride-requires c κs =
+    let at-entry = c .before .before .before .before .before .before .before .before in
+    let h =
+    steps-in _ _ _ _ _ (at-entry .pre .0) (at-entry .pre .1) in
+    (at-entry .pre .0, room _ _ _ (at-entry .pre .1) (omega arith))
 
 phase-step-requires : tie.Need-phase-step-requires
-phase-step-requires c κs = ready _ _ _ _ (c .before .before .before .before .before .before .before .before .before .before .stride .ensures .1 .passes)
+phase-step-requires c κs =
+    let at-stride = c .before .before .before .before .before .before .before .before .before
+    .before in
+    ready _ _ _ _ (at-stride .stride .ensures .1 .passes)
 
 same-length : tie.Need-same-length
 same-length c = search needs
@@ -34,7 +44,16 @@ same-length-3 : tie.Need-same-length-3
 same-length-3 c = search needs
 
 returns : tie.Need-returns
-returns c = (omega arith, turned _ _ _ _ _ (c .before .before .before .before .before .before .before .before .before .before .before .before .before .before .before .before .before .before .before .before .before .before .before .before .before .before .before .pre .1) (c .before .before .before .before .before .before .before .before .before .before .before .before .before .before .before .before .before .before .stride .ensures .1) refl (c .before .before .before .before .before .before .before .phase-step .ensures))
+returns c =
+    let at-phase-step = c .before .before .before .before .before .before .before in
+    let at-stride = at-phase-step .before .before .before .before .before .before .before .before
+    .before .before .before in
+    let at-entry = at-stride .before .before .before .before .before .before .before .before .before
+    in (
+      omega arith,
+      turned _ _ _ _ _ (at-entry .pre .1) (at-stride .stride .ensures .1) refl
+          (at-phase-step .phase-step .ensures),
+    )
 
 pub turn-spec : {M : Type 1} → statement M
 turn-spec =

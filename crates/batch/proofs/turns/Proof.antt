@@ -13,13 +13,25 @@ use Rattle.batch.proofs.turns.Tie as tie
 
 abbrev Inv-loop : tie.InvT-loop
 Inv-loop left₀ right₀ colour₀ b n rec₀ answer₀ done₀ left right colour rec answer done =
-    (length left ≡ length left₀) × (length right ≡ length right₀) × (length colour ≡ length colour₀) × (done ≤ n) × (Passes (state left right colour rec)) × (b ≡ bound 2 (rec .m) (rec .r)) × (more n 0 answer₀ (state left₀ right₀ colour₀ rec₀) ≡ more (n - done) done answer (state left right colour rec))
+    (length left ≡ length left₀) × (length right ≡ length right₀) ×
+    (length colour ≡ length colour₀) × (done ≤ n) × (Passes (state left right colour rec)) ×
+    (b ≡ bound 2 (rec .m) (rec .r)) ×
+    (more n 0 answer₀ (state left₀ right₀ colour₀ rec₀)
+    ≡ more (n - done) done answer (state left right colour rec))
 
 abbrev μ-loop : tie.MeasureT-loop
 μ-loop left₀ right₀ colour₀ b n rec₀ answer₀ done₀ left right colour rec answer done = n - done
 
 loop-holds : tie.Need-loop-holds Inv-loop μ-loop
-loop-holds c = (refl, refl, refl, omega arith, c .before .before .before .pre .0, c .before .before .before .pre .1, rw sub-zero)
+loop-holds c = (
+  refl,
+  refl,
+  refl,
+  omega arith,
+  c .before .before .before .pre .0,
+  c .before .before .before .pre .1,
+  rw sub-zero,
+)
 
 sub-turn : tie.Need-sub-turn Inv-loop μ-loop
 sub-turn c = omega arith
@@ -28,7 +40,10 @@ sub-turn-2 : tie.Need-sub-turn-2 Inv-loop μ-loop
 sub-turn-2 c = omega arith
 
 turn-requires : tie.Need-turn-requires Inv-loop μ-loop
-turn-requires c κs = (c .before .before .before .before .loop .inv .4, c .before .before .before .before .loop .inv .5)
+turn-requires c κs = (
+  c .before .before .before .before .loop .inv .4,
+  c .before .before .before .before .loop .inv .5,
+)
 
 add-done : tie.Need-add-done Inv-loop μ-loop
 add-done c = omega arith
@@ -46,7 +61,12 @@ same-length-3 : tie.Need-same-length-3 Inv-loop μ-loop
 same-length-3 c = omega arith
 
 returns : tie.Need-returns Inv-loop μ-loop
-returns c = stopped _ _ _ _ _ (c .before .before .before .before .before .before .before .before .before .before .turn .ensures .1) _ _ _ (omega arith) (λ z. c .if1 .taken ((c .before .code .ensures) ∙ z)) ∙ sym (c .before .before .before .before .before .before .before .before .before .before .before .before .before .before .before .loop .inv .6)
+returns c =
+    let at-turn = c .before .before .before .before .before .before .before .before .before .before
+    in
+    let at-loop = at-turn .before .before .before .before .before in
+    stopped _ _ _ _ _ (at-turn .turn .ensures .1) _ _ _ (omega arith)
+    (λ z. c .if1 .taken ((c .before .code .ensures) ∙ z)) ∙ sym (at-loop .loop .inv .6)
 
 add-done-2 : tie.Need-add-done-2 Inv-loop μ-loop
 add-done-2 c = omega arith
@@ -67,13 +87,35 @@ same-length-6 : tie.Need-same-length-6 Inv-loop μ-loop
 same-length-6 c = omega arith
 
 returns-2 : tie.Need-returns-2 Inv-loop μ-loop
-returns-2 c = spoilt-end _ _ _ _ _ (c .before .before .before .before .before .before .before .before .before .before .before .before .before .turn .ensures .1) (not-yes _ (c .before .if2 .taken) ∙ c .before .before .cycle-ok .ensures) (sym (c .before .before .before .before .code .ensures) ∙ c .before .before .before .if1 .left) _ _ _ _ (omega arith) (c .ended .ensures .0) (c .ended .ensures .1) ∙ sym (c .before .before .before .before .before .before .before .before .before .before .before .before .before .before .before .before .before .before .loop .inv .6)
+returns-2 c =
+    let at-turn = c .before .before .before .before .before .before .before .before .before .before
+    .before .before .before in
+    let at-loop = at-turn .before .before .before .before .before in
+    spoilt-end _ _ _ _ _ (at-turn .turn .ensures .1)
+    (not-yes _ (c .before .if2 .taken) ∙ c .before .before .cycle-ok .ensures)
+    (sym (c .before .before .before .before .code .ensures)
+    ∙ c .before .before .before .if1 .left) _ _ _ _ (omega arith) (c .ended .ensures .0)
+    (c .ended .ensures .1) ∙ sym (at-loop .loop .inv .6)
 
 loop-less : tie.Need-loop-less Inv-loop μ-loop
 loop-less c = omega arith
 
 loop-again : tie.Need-loop-again Inv-loop μ-loop
-loop-again c = (omega arith, omega arith, omega arith, omega arith, c .before .before .before .before .before .before .before .before .before .before .before .before .turn .ensures .1 .passes (not-no _ (c .if2 .left) ∙ c .before .cycle-ok .ensures), rw (c .before .before .before .before .before .before .before .before .before .before .before .before .turn .ensures .1 .m, c .before .before .before .before .before .before .before .before .before .before .before .before .turn .ensures .1 .r) (c .before .before .before .before .before .before .before .before .before .before .before .before .before .before .before .before .before .loop .inv .5), c .before .before .before .before .before .before .before .before .before .before .before .before .before .before .before .before .before .loop .inv .6 ∙ gone-on _ _ _ _ _ (c .before .before .before .before .before .before .before .before .before .before .before .before .turn .ensures .1) _ _ _ _ (omega arith) (sym (c .before .before .before .code .ensures) ∙ c .before .before .if1 .left))
+loop-again c =
+    let at-turn = c .before .before .before .before .before .before .before .before .before .before
+    .before .before in
+    let at-loop = at-turn .before .before .before .before .before in (
+      omega arith,
+      omega arith,
+      omega arith,
+      omega arith,
+      at-turn .turn .ensures .1 .passes
+          (not-no _ (c .if2 .left) ∙ c .before .cycle-ok .ensures),
+      rw
+          (at-turn .turn .ensures .1 .m, at-turn .turn .ensures .1 .r) (at-loop .loop .inv .5),
+      at-loop .loop .inv .6 ∙ gone-on _ _ _ _ _ (at-turn .turn .ensures .1) _ _ _ _ (omega arith)
+          (sym (c .before .before .before .code .ensures) ∙ c .before .before .if1 .left),
+    )
 
 same-length-7 : tie.Need-same-length-7 Inv-loop μ-loop
 same-length-7 c = omega arith

@@ -13,7 +13,9 @@ returns : tie.Need-returns
 returns c = spurned _ _ _ _ _ (not-yes _ (c .if1 .taken) ∙ c .before .is-record .ensures)
 
 record-of-requires : tie.Need-record-of-requires
-record-of-requires c κs = not-no _ (c .before .before .before .if1 .left) ∙ c .before .before .before .before .is-record .ensures
+record-of-requires c κs =
+    not-no _ (c .before .before .before .if1 .left)
+    ∙ c .before .before .before .before .is-record .ensures
 
 one-by-one-requires : tie.Need-one-by-one-requires
 one-by-one-requires c κs = search needs
@@ -32,7 +34,8 @@ same-length-3 c = search needs
 
 returns-2 : tie.Need-returns-2
 returns-2 c =
-    let at-call = c .before .before .before .before .before .before .before .before in
+    let at-before = c .before .before .before .before .before .before .before in
+    let at-call = at-before .before in
     let at-if = at-call .before .before .before .before .before in
     faces _ _ _ _ _ (not-no _ (at-if .if1 .left) ∙ at-if .before .is-record .ensures) _
     (at-call .before .record-of .ensures) _ _ _ _ _ (at-call .one-by-one .ensures)

@@ -1,5 +1,5 @@
--- The loop keeps what is left of the n steps: each turn makes the next one, or ends the run with the
--- one that is refused.
+-- The loop keeps what is left of the n steps: each turn makes the next one, or ends the run with
+-- the one that is refused.
 use Prim.Native.Nat.{_-_, _≤_}
 use mathlib.Core.Path.{_≡_, refl, sym, _∙_}
 use lib.ListN.{length}
@@ -42,7 +42,8 @@ same-length-3 c = omega arith
 
 returns : tie.Need-returns Inv-loop μ-loop
 returns c =
-    let at-call = c .before .before .before .before .before .before .before .before .before in
+    let at-before = c .before .before .before .before .before .before .before .before in
+    let at-call = at-before .before in
     let at-test = at-call .before .before .before .before in
     refused _ _ _ _ _ (at-call .collect .ensures) (at-test .loop-test .taken)
     (c .before .code .ensures) (c .if1 .taken)
@@ -50,7 +51,9 @@ returns c =
 
 add-done : tie.Need-add-done Inv-loop μ-loop
 add-done c =
-    let at-entry = c .before .before .before .before .before .before .before .before .before .before .before .before .before .before .before .before .before .before in
+    let at-before = c .before .before .before .before .before .before .before .before .before
+    .before .before .before .before .before .before .before .before in
+    let at-entry = at-before .before in
     omega (arith, at-entry .good .1 .1 .1 .1 .0 .1)
 
 loop-less : tie.Need-loop-less Inv-loop μ-loop
@@ -58,7 +61,8 @@ loop-less c = omega arith
 
 loop-again : tie.Need-loop-again Inv-loop μ-loop
 loop-again c =
-    let at-call = c .before .before .before .before .before .before .before .before .before in
+    let at-before = c .before .before .before .before .before .before .before .before in
+    let at-call = at-before .before in
     let at-test = at-call .before .before .before .before in
     let goes-on = done _ _ _ _ _ (at-call .collect .ensures) (at-test .loop-test .taken)
     (c .before .code .ensures) (c .if1 .left) in

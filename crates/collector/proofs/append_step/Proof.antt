@@ -1,4 +1,3 @@
-use Prim.Native.Nat.{_-_}
 use borrow.Author.Needs.{needs}
 use Rattle.base.proofs.Tests.{tests}
 use Rattle.rules.specs.Collector.{appendStep}
@@ -36,7 +35,8 @@ same-length-3 c = search needs
 
 returns-2 : tie.Need-returns-2
 unfolding appendStep
-returns-2 c = search (c .before .before .before .before .append-white .ensures, tests, needs) depth 12
+returns-2 c =
+    search (c .before .before .before .before .append-white .ensures, tests, needs) depth 12
 
 returns-3 : tie.Need-returns-3
 unfolding appendStep

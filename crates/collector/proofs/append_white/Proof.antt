@@ -1,4 +1,3 @@
-use Prim.Native.Nat.{_-_}
 use native.Mathlib.Omega.{arith}
 use borrow.Author.Needs.{needs}
 use Rattle.base.proofs.Tests.{tests}
@@ -44,7 +43,9 @@ with-last-requires : tie.Need-with-last-requires
 with-last-requires c κs = search needs
 
 after-append-requires : tie.Need-after-append-requires
-after-append-requires c κs = rw (c .with-last .ensures) (omega (arith, c .before .before .before .before .before .before .before .before .pre))
+after-append-requires c κs =
+    let at-entry = c .before .before .before .before .before .before .before .before in
+    rw (c .with-last .ensures) (omega (arith, at-entry .pre))
 
 same-length : tie.Need-same-length
 same-length c = search needs

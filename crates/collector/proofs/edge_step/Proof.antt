@@ -1,4 +1,3 @@
-use Prim.Native.Nat.{_-_}
 use mathlib.Core.Path.{refl, sym, _∙_}
 use native.Mathlib.Omega.{arith}
 use borrow.Author.Needs.{needs}
@@ -16,14 +15,18 @@ unfolding edgeStep
 returns c = λ es. pick-yes _ _ _ _ (sym (c .if1 .taken) ∙ c .before .bad-edge .ensures) refl
 
 shade-step-requires : tie.Need-shade-step-requires
-shade-step-requires c κs = let h = fine-edge _ _ (sym (c .before .if1 .left) ∙ c .before .before .bad-edge .ensures) in omega arith
+shade-step-requires c κs = let h =
+    fine-edge _ _ (sym (c .before .if1 .left) ∙ c .before .before .bad-edge .ensures) in omega arith
 
 same-length : tie.Need-same-length
 same-length c = search needs
 
 returns-2 : tie.Need-returns-2
 unfolding edgeStep
-returns-2 c = λ es. pick-no _ _ _ _ (sym (c .before .before .before .before .if1 .left) ∙ c .before .before .before .before .before .bad-edge .ensures) (c .before .before .shade-step .ensures es)
+returns-2 c =
+    λ es. pick-no _ _ _ _ (sym (c .before .before .before .before .if1 .left)
+    ∙ c .before .before .before .before .before .bad-edge .ensures)
+    (c .before .before .shade-step .ensures es)
 
 pub edge-step-spec : {M : Type 1} → statement M
 edge-step-spec =

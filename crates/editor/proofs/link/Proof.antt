@@ -1,4 +1,3 @@
-use Prim.Native.Nat.{_-_}
 use mathlib.Core.Path.{sym, _∙_}
 use native.Mathlib.Omega.{arith}
 use borrow.Author.Needs.{needs}
@@ -20,7 +19,10 @@ returns c = rw step-linking (unless-refused _ _ _ _ (c .before .link-code .ensur
 
 link-from-requires : tie.Need-link-from-requires
 unfolding linkCode
-link-from-requires c κs = let z = zeros _ (sym (c .before .before .if1 .left) ∙ c .before .before .before .link-code .ensures) in let g = good _ _ _ _ (z .0) in let p = slot-below _ _ _ (z .1 .1 .0) in let q = slot-below _ _ _ (z .1 .1 .1 .0) in let d = side-below _ _ (z .1 .0) in omega arith
+link-from-requires c κs = let z =
+    zeros _ (sym (c .before .before .if1 .left) ∙ c .before .before .before .link-code .ensures) in
+    let g = good _ _ _ _ (z .0) in let p = slot-below _ _ _ (z .1 .1 .0) in
+    let q = slot-below _ _ _ (z .1 .1 .1 .0) in let d = side-below _ _ (z .1 .0) in omega arith
 
 same-length : tie.Need-same-length
 same-length c = search needs
@@ -30,7 +32,11 @@ same-length-2 c = search needs
 
 returns-2 : tie.Need-returns-2
 unfolding link linkCode
-returns-2 c = rw step-linking (unless-done _ _ _ _ _ (c .before .before .before .before .before .before .before .before .link-code .ensures) (c .before .before .before .before .before .before .before .if1 .left) (c .before .before .before .before .link-from .ensures _))
+returns-2 c =
+    let at-if1 = c .before .before .before .before .before .before .before in
+    let at-link-code = at-if1 .before in
+    rw step-linking (unless-done _ _ _ _ _ (at-link-code .link-code .ensures) (at-if1 .if1 .left)
+    (c .before .before .before .before .link-from .ensures _))
 
 pub link-spec : {M : Type 1} → statement M
 link-spec =

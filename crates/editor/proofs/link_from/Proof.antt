@@ -1,4 +1,3 @@
-use Prim.Native.Nat.{_-_}
 use native.Mathlib.Omega.{arith}
 use borrow.Author.Needs.{needs}
 use Rattle.rules.proofs.Walks.{at-below}
@@ -25,7 +24,9 @@ same-length-2 : tie.Need-same-length-2
 same-length-2 c = search needs
 
 returns : tie.Need-returns
-returns c = λ k. halts _ _ _ _ _ _ (c .before .before .before .walk .ensures) (c .before .enum-told .given .1) (c .stood .ensures)
+returns c =
+    λ k. halts _ _ _ _ _ _ (c .before .before .before .walk .ensures)
+    (c .before .enum-told .given .1) (c .stood .ensures)
 
 same-length-3 : tie.Need-same-length-3
 same-length-3 c = search needs
@@ -34,10 +35,18 @@ same-length-4 : tie.Need-same-length-4
 same-length-4 c = search needs
 
 returns-2 : tie.Need-returns-2
-returns-2 c = λ k. absent _ _ _ _ _ (c .before .before .before .before .walk .ensures) (c .before .before .from .given .1) (c .if1 .taken)
+returns-2 c =
+    λ k. absent _ _ _ _ _ (c .before .before .before .before .walk .ensures)
+    (c .before .before .from .given .1) (c .if1 .taken)
 
 link-to-requires : tie.Need-link-to-requires
-link-to-requires c κs = let n = at-below _ _ _ _ _ _ _ _ (c .before .before .before .before .before .before .walk .ensures) (c .before .before .before .before .from .given .1) (omega (arith, c .before .before .before .before .before .before .before .before .before .before .before .pre)) in omega (arith, c .before .before .before .before .before .before .before .before .before .before .before .pre)
+link-to-requires c κs =
+    let at-walk = c .before .before .before .before .before .before in
+    let at-entry = at-walk .before .before .before .before .before in
+    let n =
+    at-below _ _ _ _ _ _ _ _ (at-walk .walk .ensures)
+    (c .before .before .before .before .from .given .1) (omega (arith, at-entry .pre)) in
+    omega (arith, at-entry .pre)
 
 same-length-5 : tie.Need-same-length-5
 same-length-5 c = search needs
@@ -46,7 +55,12 @@ same-length-6 : tie.Need-same-length-6
 same-length-6 c = search needs
 
 returns-3 : tie.Need-returns-3
-returns-3 c = λ k. departs _ _ _ _ _ _ (c .before .before .before .before .before .before .before .before .before .before .before .walk .ensures) (c .before .before .before .before .before .before .before .before .before .from .given .1) (c .before .before .before .before .before .before .before .if1 .left) (c .before .before .before .before .link-to .ensures k)
+returns-3 c =
+    let at-if1 = c .before .before .before .before .before .before .before in
+    let at-from = at-if1 .before .before in
+    let at-walk = at-from .before .before in
+    λ k. departs _ _ _ _ _ _ (at-walk .walk .ensures) (at-from .from .given .1) (at-if1 .if1 .left)
+    (c .before .before .before .before .link-to .ensures k)
 
 pub link-from-spec : {M : Type 1} → statement M
 link-from-spec =

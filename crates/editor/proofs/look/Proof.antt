@@ -1,4 +1,3 @@
-use Prim.Native.Nat.{_-_}
 use mathlib.Core.Path.{refl, sym, _∙_}
 use native.Mathlib.Omega.{arith}
 use borrow.Author.Needs.{needs}
@@ -21,7 +20,9 @@ returns c = rw step-looking (unless-refused _ _ _ _ (c .before .look-code .ensur
 
 walk-requires : tie.Need-walk-requires
 unfolding lookCode
-walk-requires c κs = let z = zeros _ (sym (c .if1 .left) ∙ c .before .look-code .ensures) in let g = good _ _ _ _ (z .0) in let k = slot-below _ _ _ (z .1 .0) in omega arith
+walk-requires c κs = let z =
+    zeros _ (sym (c .if1 .left) ∙ c .before .look-code .ensures) in let g = good _ _ _ _ (z .0) in
+    let k = slot-below _ _ _ (z .1 .0) in omega arith
 
 enum-known-found : tie.Need-enum-known-found
 enum-known-found c = search needs
@@ -34,11 +35,21 @@ stood-requires c κs = search needs
 
 returns-2 : tie.Need-returns-2
 unfolding look lookCode
-returns-2 c = rw step-looking (unless-done _ _ _ _ _ (c .before .before .before .before .before .look-code .ensures) (c .before .before .before .before .if1 .left) (stops _ _ _ _ _ _ (c .before .before .before .walk .ensures) (c .before .enum-told .given .1) (c .stood .ensures)))
+returns-2 c =
+    rw step-looking (unless-done _ _ _ _ _
+    (c .before .before .before .before .before .look-code .ensures)
+    (c .before .before .before .before .if1 .left)
+    (stops _ _ _ _ _ _ (c .before .before .before .walk .ensures)
+    (c .before .enum-told .given .1) (c .stood .ensures)))
 
 returns-3 : tie.Need-returns-3
 unfolding look lookCode
-returns-3 c = rw step-looking (unless-done _ _ _ _ _ (c .before .before .before .before .before .look-code .ensures) (c .before .before .before .before .if1 .left) (arrives _ _ _ _ _ _ (c .before .before .before .walk .ensures) (c .before .found .given .1) refl))
+returns-3 c =
+    rw step-looking (unless-done _ _ _ _ _
+    (c .before .before .before .before .before .look-code .ensures)
+    (c .before .before .before .before .if1 .left)
+    (arrives _ _ _ _ _ _ (c .before .before .before .walk .ensures) (c .before .found .given .1)
+    refl))
 
 pub look-spec : {M : Type 1} → statement M
 look-spec =

@@ -1,4 +1,3 @@
-use Prim.Native.Nat.{_-_}
 use mathlib.Core.Path.{subst}
 use lib.ListN.{length}
 use native.Mathlib.Omega.{arith}
@@ -20,14 +19,22 @@ cast-at : tie.Need-cast-at
 cast-at c = search needs
 
 slice-read-if1 : tie.Need-slice-read-if1
-slice-read-if1 c = let h = subst (Owable (length (c .before .before .before .before .before .args .colour .now))) (c .before .before .owed .given .1) (c .before .before .before .before .before .pre) in omega arith
+slice-read-if1 c = let h =
+    subst (Owable (length (c .before .before .before .before .before .args .colour .now)))
+    (c .before .before .owed .given .1) (c .before .before .before .before .before .pre) in
+    omega arith
 
 returns : tie.Need-returns
 unfolding pay
-returns c = λ es. rw (c .before .before .before .owed .given .1) (search (same, tests, needs) depth 12)
+returns c =
+    λ es. rw (c .before .before .before .owed .given .1) (search (same, tests, needs) depth 12)
 
 shade-node-requires : tie.Need-shade-node-requires
-shade-node-requires c κs = let h = subst (Owable (length (c .before .before .before .before .before .before .before .args .colour .now))) (c .before .before .before .before .owed .given .1) (c .before .before .before .before .before .before .before .pre) in omega arith
+shade-node-requires c κs =
+    let at-entry = c .before .before .before .before .before .before .before in
+    let h =
+    subst (Owable (length (at-entry .args .colour .now)))
+    (c .before .before .before .before .owed .given .1) (at-entry .pre) in omega arith
 
 paid-requires : tie.Need-paid-requires
 paid-requires c κs = search needs
@@ -41,7 +48,9 @@ same-length c = search needs
 
 returns-3 : tie.Need-returns-3
 unfolding pay
-returns-3 c = λ es. rw (c .before .before .before .before .before .before .before .before .owed .given .1) (search (same, tests, needs) depth 12)
+returns-3 c =
+    let at-owed = c .before .before .before .before .before .before .before .before in
+    λ es. rw (at-owed .owed .given .1) (search (same, tests, needs) depth 12)
 
 pub pay-spec : {M : Type 1} → statement M
 pay-spec =

@@ -1,4 +1,3 @@
-use Prim.Native.Nat.{_-_}
 use mathlib.Core.Path.{sym, _∙_}
 use borrow.Author.Needs.{needs}
 use Rattle.rules.specs.Editor.{pay, shadeOwed}
@@ -15,14 +14,20 @@ unfolding shadeOwed
 returns c = rw step-shading (unless-refused _ _ _ _ (c .before .check .ensures) (c .if1 .taken))
 
 pay-requires : tie.Need-pay-requires
-pay-requires c κs = let g = good _ _ _ _ (sym (c .before .if1 .left) ∙ c .before .before .check .ensures) in rw (g .colours) (owable _ _ _ (sym (c .before .if1 .left) ∙ c .before .before .check .ensures))
+pay-requires c κs = let g =
+    good _ _ _ _ (sym (c .before .if1 .left) ∙ c .before .before .check .ensures) in
+    rw (g .colours)
+    (owable _ _ _ (sym (c .before .if1 .left) ∙ c .before .before .check .ensures))
 
 same-length : tie.Need-same-length
 same-length c = search needs
 
 returns-2 : tie.Need-returns-2
 unfolding shadeOwed
-returns-2 c = rw step-shading (unless-done _ _ _ _ _ (c .before .before .before .before .before .check .ensures) (c .before .before .before .before .if1 .left) (c .before .before .pay .ensures _))
+returns-2 c =
+    rw step-shading (unless-done _ _ _ _ _
+    (c .before .before .before .before .before .check .ensures)
+    (c .before .before .before .before .if1 .left) (c .before .before .pay .ensures _))
 
 pub shade-spec : {M : Type 1} → statement M
 shade-spec = tie.close (tie.spec check-requires returns pay-requires same-length returns-2)

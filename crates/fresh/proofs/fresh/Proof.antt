@@ -1,4 +1,3 @@
-use Prim.Native.Nat.{_-_}
 use mathlib.Core.Path.{_∙_}
 use borrow.Author.Needs.{needs}
 use Rattle.base.proofs.Tests.{facts, each, not-no, not-yes, pick-yes, pick-no}
@@ -15,7 +14,8 @@ fresh-requires c κs = search needs
 
 returns : tie.Need-returns
 unfolding fresh
-returns c = pick-no _ _ _ _ (not-yes _ (c .before .if1 .taken) ∙ c .before .before .size-ok .ensures) (cc)
+returns c =
+    pick-no _ _ _ _ (not-yes _ (c .before .if1 .taken) ∙ c .before .before .size-ok .ensures) (cc)
 
 cast-nodes : tie.Need-cast-nodes
 unfolding sizeOk
@@ -27,11 +27,20 @@ cast-slots c = omega (facts, each _ (not-no _ (c .if1 .left) ∙ c .before .size
 
 fill-requires : tie.Need-fill-requires
 unfolding sizeOk
-fill-requires c κs = omega (facts, each _ (not-no _ (c .before .before .before .if1 .left) ∙ c .before .before .before .before .size-ok .ensures))
+fill-requires c κs =
+    omega (
+      facts,
+      each _ (not-no _ (c .before .before .before .if1 .left)
+          ∙ c .before .before .before .before .size-ok .ensures),
+    )
 
 last-of-requires : tie.Need-last-of-requires
 unfolding sizeOk
-last-of-requires c κs = omega (facts, each _ (not-no _ (c .before .before .before .before .before .before .before .before .before .before .if1 .left) ∙ c .before .before .before .before .before .before .before .before .before .before .before .size-ok .ensures))
+last-of-requires c κs =
+    let at-if1 = c .before .before .before .before .before .before .before .before .before .before
+    in
+    let at-size-ok = at-if1 .before in
+    omega (facts, each _ (not-no _ (at-if1 .if1 .left) ∙ at-size-ok .size-ok .ensures))
 
 fresh-requires-2 : tie.Need-fresh-requires-2
 fresh-requires-2 c κs = search needs
@@ -47,7 +56,12 @@ same-length-3 c = search needs
 
 returns-2 : tie.Need-returns-2
 unfolding fresh
-returns-2 c = pick-yes _ _ _ _ (not-no _ (c .before .before .before .before .before .before .before .before .before .before .before .before .if1 .left) ∙ c .before .before .before .before .before .before .before .before .before .before .before .before .before .size-ok .ensures) (rw (← c .before .before .before .before .before .before .before .before .fill .ensures, ← c .before .last-of .ensures) (cc))
+returns-2 c =
+    let at-fill = c .before .before .before .before .before .before .before .before in
+    let at-if1 = at-fill .before .before .before .before in
+    let at-size-ok = at-if1 .before in
+    pick-yes _ _ _ _ (not-no _ (at-if1 .if1 .left) ∙ at-size-ok .size-ok .ensures)
+    (rw (← at-fill .fill .ensures, ← c .before .last-of .ensures) (cc))
 
 pub fresh-spec : {M : Type 1} → statement M
 fresh-spec =

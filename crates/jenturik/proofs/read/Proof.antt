@@ -1,9 +1,5 @@
 use Rattle.jenturik.proofs.read.Statement.{statement}
 use Rattle.jenturik.proofs.read.Tie as tie
-use Rattle.jenturik.proofs.read.Reads as reads
-use Rattle.jenturik.proofs.read.Lts as lts
-use Rattle.jenturik.proofs.again.Reads as again-reads
-use Rattle.libc.proofs.read.Reads as read-reads
 
 abbrev Inv-loop : tie.InvT-loop
 Inv-loop input₀ tries₀ input tries = ?

@@ -1,10 +1,5 @@
 use Rattle.jenturik.proofs.write_some.Statement.{statement}
 use Rattle.jenturik.proofs.write_some.Tie as tie
-use Rattle.jenturik.proofs.write_some.Reads as reads
-use Rattle.jenturik.proofs.write_some.Lts as lts
-use Rattle.io.proofs.count.Reads as count-reads
-use Rattle.jenturik.proofs.again.Reads as again-reads
-use Rattle.libc.proofs.write.Reads as write-reads
 
 abbrev Inv-loop : tie.InvT-loop
 Inv-loop bytes tries₀ tries = ?

@@ -9,10 +9,17 @@ is-record-requires : tie.Need-is-record-requires
 is-record-requires c κs = search needs
 
 returns : tie.Need-returns
-returns c = (spurned-run _ _ _ _ (not-yes _ (c .if1 .taken) ∙ c .before .is-record .ensures) _, spurned-last _ _ _ _ (not-yes _ (c .if1 .taken) ∙ c .before .is-record .ensures) _, λ h. h)
+returns c = (
+  spurned-run _ _ _ _ (not-yes _ (c .if1 .taken) ∙ c .before .is-record .ensures) _,
+  spurned-last
+      _ _ _ _ (not-yes _ (c .if1 .taken) ∙ c .before .is-record .ensures) _,
+  λ h. h,
+)
 
 record-of-requires : tie.Need-record-of-requires
-record-of-requires c κs = (not-no _ (c .before .before .before .if1 .left) ∙ c .before .before .before .before .is-record .ensures)
+record-of-requires c κs =
+    (not-no _ (c .before .before .before .if1 .left)
+    ∙ c .before .before .before .before .is-record .ensures)
 
 collect-many-requires : tie.Need-collect-many-requires
 collect-many-requires c κs = search needs
@@ -45,7 +52,23 @@ same-length-3 : tie.Need-same-length-3
 same-length-3 c = search needs
 
 returns-2 : tie.Need-returns-2
-returns-2 c = (rw (c .before .code .ensures) (faces-run _ _ _ _ _ _ _ _ _ (not-no _ (c .before .before .before .before .before .before .before .before .before .before .before .before .before .before .before .before .if1 .left) ∙ c .before .before .before .before .before .before .before .before .before .before .before .before .before .before .before .before .before .is-record .ensures) (c .before .before .before .before .before .before .before .before .before .before .before .before .record-of .ensures) _ _ _ _ (c .before .before .before .before .before .before .before .before .before .before .before .collect-many .ensures .0) (c .before .before .before .words-of .ensures .0)), faces-last _ _ _ _ _ _ _ _ (not-no _ (c .before .before .before .before .before .before .before .before .before .before .before .before .before .before .before .before .if1 .left) ∙ c .before .before .before .before .before .before .before .before .before .before .before .before .before .before .before .before .before .is-record .ensures) (c .before .before .before .before .before .before .before .before .before .before .before .before .record-of .ensures) (c .before .before .before .before .before .before .before .before .before .before .before .collect-many .ensures .1) (rw (c .before .before .what .ensures, c .before .code .ensures, c .node .ensures)), λ h. c .before .before .before .words-of .ensures .1)
+returns-2 c =
+    let at-collect-many = c .before .before .before .before .before .before .before .before .before
+    .before .before in
+    let at-record-of = at-collect-many .before in
+    let at-if1 = at-record-of .before .before .before .before in
+    let at-is-record = at-if1 .before in (
+      rw (c .before .code .ensures) (faces-run _ _ _ _ _ _ _ _ _
+          (not-no _ (at-if1 .if1 .left) ∙ at-is-record .is-record .ensures)
+          (at-record-of .record-of .ensures) _ _ _ _ (at-collect-many .collect-many .ensures .0)
+          (c .before .before .before .words-of .ensures .0)),
+      faces-last _ _ _ _ _ _ _ _
+          (not-no _ (at-if1 .if1 .left) ∙ at-is-record .is-record .ensures)
+          (at-record-of .record-of .ensures) (at-collect-many .collect-many .ensures .1)
+          (rw (c .before .before .what .ensures, c .before .code .ensures, c .node .ensures)),
+      λ h.
+          c .before .before .before .words-of .ensures .1,
+    )
 
 pub jenturik-collect-many-spec : {M : Type 1} → statement M
 jenturik-collect-many-spec =

@@ -22,7 +22,12 @@ same-length-3 : tie.Need-same-length-3
 same-length-3 c = search needs
 
 returns : tie.Need-returns
-returns c = (shows _ _ _ _ _ _ _ (c .before .before .before .before .before .before .before .before .before .fresh .ensures) (c .before .words-of .ensures .0) (c .tell .ensures), c .before .words-of .ensures .1)
+returns c =
+    let at-fresh = c .before .before .before .before .before .before .before .before .before in (
+      shows _ _ _ _ _ _ _ (at-fresh .fresh .ensures) (c .before .words-of .ensures .0)
+          (c .tell .ensures),
+      c .before .words-of .ensures .1,
+    )
 
 pub jenturik-fresh-spec : {M : Type 1} → statement M
 jenturik-fresh-spec =

@@ -1,4 +1,3 @@
-use Prim.Native.Nat.{_-_}
 use borrow.Author.Needs.{needs}
 use Rattle.lines.proofs.answered.Statement.{statement}
 use Rattle.lines.proofs.answered.Tie as tie

@@ -18,7 +18,9 @@ same-length-3 : tie.Need-same-length-3
 same-length-3 c = search needs
 
 returns : tie.Need-returns
-returns c = rw (c .code .ensures) (c .before .before .before .before .before .before .before .before .collect-many .ensures .0)
+returns c =
+    let at-collect-many = c .before .before .before .before .before .before .before .before in
+    rw (c .code .ensures) (at-collect-many .collect-many .ensures .0)
 
 pub collect-many-spec : {M : Type 1} → statement M
 collect-many-spec =

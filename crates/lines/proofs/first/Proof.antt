@@ -42,19 +42,29 @@ same-length-3 c = search needs
 
 returns : tie.Need-returns
 unfolding opened
-returns c = let at-begin = c .before .before .before .before .before .before in let at-said = at-begin .before .before .before .before .before in rw (← at-said .before .before .read .ensures, at-said .said .given .1) (at-begin .begin .ensures)
+returns c =
+    let at-begin = c .before .before .before .before .before .before in
+    let at-said = at-begin .before .before .before .before .before in
+    rw (← at-said .before .before .read .ensures, at-said .said .given .1)
+    (at-begin .begin .ensures)
 
 returns-2 : tie.Need-returns-2
 unfolding opened
-returns-2 c = rw (← c .before .before .before .read .ensures, c .before .enum-told .given .1) (c .refused .ensures _ _ _)
+returns-2 c =
+    rw (← c .before .before .before .read .ensures, c .before .enum-told .given .1)
+    (c .refused .ensures _ _ _)
 
 returns-3 : tie.Need-returns-3
 unfolding opened
-returns-3 c = rw (← c .before .before .before .read .ensures, c .before .enum-told2 .given .1) (c .refused2 .ensures _ _ _)
+returns-3 c =
+    rw (← c .before .before .before .read .ensures, c .before .enum-told2 .given .1)
+    (c .refused2 .ensures _ _ _)
 
 returns-4 : tie.Need-returns-4
 unfolding opened
-returns-4 c = rw (← c .before .before .before .read .ensures, c .before .enum-told3 .given .1) (c .refused3 .ensures _ _ _)
+returns-4 c =
+    rw (← c .before .before .before .read .ensures, c .before .enum-told3 .given .1)
+    (c .refused3 .ensures _ _ _)
 
 pub first-spec : {M : Type 1} → statement M
 first-spec =

@@ -1,4 +1,5 @@
--- `start` meets its contract: Fresh makes the table in the parts that are lent, and what lies behind them is as it was.
+-- `start` meets its contract: Fresh makes the table in the parts that are lent, and what lies
+-- behind them is as it was.
 use native.Mathlib.Nat.{sub-zero}
 use borrow.Author.Needs.{needs}
 use Rattle.lines.proofs.start.Statement.{statement}
@@ -47,7 +48,10 @@ same-length-3 : tie.Need-same-length-3
 same-length-3 c = search needs
 
 returns : tie.Need-returns
-returns c = let e = rw sub-zero at (c .before .before .before .before .before .before .before .fresh .ensures) in rw (sub-zero, ← e) (c .answered .ensures _ _ _)
+returns c =
+    let at-fresh = c .before .before .before .before .before .before .before in
+    let e =
+    rw sub-zero at (at-fresh .fresh .ensures) in rw (sub-zero, ← e) (c .answered .ensures _ _ _)
 
 pub start-spec : {M : Type 1} → statement M
 start-spec =

@@ -1,4 +1,3 @@
-use Prim.Native.Nat.{_-_}
 use native.Mathlib.Omega.{arith}
 use borrow.Author.Needs.{needs}
 use Rattle.skim.proofs.Calms.{cut, nowhere, straight, everywhere, towards}
@@ -28,7 +27,13 @@ least-requires : tie.Need-least-requires
 least-requires c κs = search needs
 
 returns-3 : tie.Need-returns-3
-returns-3 c = (c .least .ensures .0, cut _ _ _ _ _ (c .least .ensures .1) (towards _ _ _ _ _ (omega arith) (omega arith) (omega arith) (omega arith) (gray-stops _ (c .before .before .if4 .taken)) (c .before .gap .ensures .0) (c .before .gap .ensures .1)))
+returns-3 c = (
+  c .least .ensures .0,
+  cut _ _ _ _ _ (c .least .ensures .1)
+      (towards _ _ _ _ _ (omega arith) (omega arith) (omega arith) (omega arith)
+      (gray-stops _ (c .before .before .if4 .taken)) (c .before .gap .ensures .0)
+      (c .before .gap .ensures .1)),
+)
 
 sub-least : tie.Need-sub-least
 sub-least c = search needs

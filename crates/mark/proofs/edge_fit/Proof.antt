@@ -15,7 +15,8 @@ shared-slice-read-result : tie.Need-shared-slice-read-result
 shared-slice-read-result c = search needs
 
 returns-3 : tie.Need-returns-3
-returns-3 c = λ h. record { below = omega arith; not-free = c .before .if2 .left; known = leb-true _ _ h }
+returns-3 c =
+    λ h. record { below = omega arith; not-free = c .before .if2 .left; known = leb-true _ _ h }
 
 pub edge-fit-spec : {M : Type 1} → statement M
 edge-fit-spec = tie.close (tie.spec returns returns-2 shared-slice-read-result returns-3)

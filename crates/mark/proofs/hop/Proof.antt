@@ -1,4 +1,3 @@
-use Prim.Native.Nat.{_-_}
 use mathlib.Core.Path.{refl}
 use native.Mathlib.Omega.{arith}
 use borrow.Author.Needs.{needs}
@@ -13,19 +12,27 @@ sub-least : tie.Need-sub-least
 sub-least c = search needs
 
 sub-least-2 : tie.Need-sub-least-2
-sub-least-2 c = let g = at _ _ _ _ _ (c .before .before .before .before .before .before .pre .0 .passes) in omega arith
+sub-least-2 c =
+    let at-entry = c .before .before .before .before .before .before in
+    let g = at _ _ _ _ _ (at-entry .pre .0 .passes) in omega arith
 
 least-requires : tie.Need-least-requires
 least-requires c κs = search needs
 
 ahead-requires : tie.Need-ahead-requires
-ahead-requires c κs = let g = at _ _ _ _ _ (c .before .before .before .before .before .before .before .pre .0 .passes) in omega arith
+ahead-requires c κs =
+    let at-entry = c .before .before .before .before .before .before .before in
+    let g = at _ _ _ _ _ (at-entry .pre .0 .passes) in omega arith
 
 add-around : tie.Need-add-around
-add-around c = let g = at _ _ _ _ _ (c .before .before .before .before .before .before .before .before .before .pre .0 .passes) in omega arith
+add-around c =
+    let at-entry = c .before .before .before .before .before .before .before .before .before in
+    let g = at _ _ _ _ _ (at-entry .pre .0 .passes) in omega arith
 
 around-requires : tie.Need-around-requires
-around-requires c κs = let g = at _ _ _ _ _ (c .before .before .before .before .before .before .before .before .before .pre .0 .passes) in omega arith
+around-requires c κs =
+    let at-entry = c .before .before .before .before .before .before .before .before .before in
+    let g = at _ _ _ _ _ (at-entry .pre .0 .passes) in omega arith
 
 sub-t10 : tie.Need-sub-t10
 sub-t10 c = search needs
@@ -34,7 +41,14 @@ add-t12 : tie.Need-add-t12
 add-t12 c = search needs
 
 returns : tie.Need-returns
-returns c = let g = at _ _ _ _ _ (c .before .before .before .before .before .before .before .before .before .before .before .before .pre .0 .passes) in hops _ _ _ _ _ _ _ _ (c .before .before .before .before .before .before .before .before .before .before .before .before .pre .0) (c .before .before .before .before .before .before .before .before .before .before .before .before .pre .1) (c .before .before .before .before .ahead .ensures .1) (omega arith) (omega arith) (c .before .before .around .ensures) refl refl refl refl refl
+returns c =
+    let at-entry = c .before .before .before .before .before .before .before .before .before .before
+    .before .before in
+    let g =
+    at _ _ _ _ _ (at-entry .pre .0 .passes) in
+    hops _ _ _ _ _ _ _ _ (at-entry .pre .0) (at-entry .pre .1)
+    (c .before .before .before .before .ahead .ensures .1) (omega arith) (omega arith)
+    (c .before .before .around .ensures) refl refl refl refl refl
 
 pub hop-spec : {M : Type 1} → statement M
 hop-spec =

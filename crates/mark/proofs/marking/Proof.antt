@@ -18,19 +18,29 @@ loop-holds : tie.Need-loop-holds Inv-loop μ-loop
 loop-holds c = (refl, stays _ _ _ _ _ _ (c .before .before .before .pre .0))
 
 turn-requires : tie.Need-turn-requires Inv-loop μ-loop
-turn-requires c κs = (c .before .before .before .loop .inv .1 .known, c .before .before .before .before .before .before .before .pre .1)
+turn-requires c κs =
+    let at-entry = c .before .before .before .before .before .before .before in
+    (c .before .before .before .loop .inv .1 .known, at-entry .pre .1)
 
 same-length : tie.Need-same-length Inv-loop μ-loop
 same-length c = omega arith
 
 returns : tie.Need-returns Inv-loop μ-loop
-returns c = goes-on _ _ _ _ _ _ _ _ _ _ (c .before .before .before .before .before .before .before .before .before .loop .inv .1) (c .before .before .before .before .before .turn .ensures)
+returns c =
+    let at-loop = c .before .before .before .before .before .before .before .before .before in
+    goes-on _ _ _ _ _ _ _ _ _ _ (at-loop .loop .inv .1)
+    (c .before .before .before .before .before .turn .ensures)
 
 loop-less : tie.Need-loop-less Inv-loop μ-loop
 loop-less c = omega arith
 
 loop-again : tie.Need-loop-again Inv-loop μ-loop
-loop-again c = (omega arith, goes-on _ _ _ _ _ _ _ _ _ _ (c .before .before .before .before .before .before .before .before .before .loop .inv .1) (c .before .before .before .before .before .turn .ensures))
+loop-again c =
+    let at-loop = c .before .before .before .before .before .before .before .before .before in (
+      omega arith,
+      goes-on _ _ _ _ _ _ _ _ _ _ (at-loop .loop .inv .1)
+          (c .before .before .before .before .before .turn .ensures),
+    )
 
 same-length-2 : tie.Need-same-length-2 Inv-loop μ-loop
 same-length-2 c = omega arith

@@ -20,34 +20,64 @@ returns-2 : tie.Need-returns-2
 returns-2 c = λ h. absurd (false≢true h)
 
 shared-slice-read-if3 : tie.Need-shared-slice-read-if3
-shared-slice-read-if3 c = let g = at _ _ _ _ _ (c .before .before .before .before .before .before .before .before .before .pre .0 .passes) in omega arith
+shared-slice-read-if3 c =
+    let at-entry = c .before .before .before .before .before .before .before .before .before in
+    let g = at _ _ _ _ _ (at-entry .pre .0 .passes) in omega arith
 
 returns-3 : tie.Need-returns-3
 returns-3 c = λ h. absurd (false≢true h)
 
 mul-edge-fit : tie.Need-mul-edge-fit
-mul-edge-fit c = let g = at _ _ _ _ _ (c .before .before .before .before .before .before .before .before .before .before .pre .0 .passes) in omega arith
+mul-edge-fit c =
+    let at-entry = c .before .before .before .before .before .before .before .before .before .before
+    in
+    let g = at _ _ _ _ _ (at-entry .pre .0 .passes) in omega arith
 
 shared-slice-read-edge-fit : tie.Need-shared-slice-read-edge-fit
-shared-slice-read-edge-fit c = let g = at _ _ _ _ _ (c .before .before .before .before .before .before .before .before .before .before .before .pre .0 .passes) in omega arith
+shared-slice-read-edge-fit c =
+    let at-entry = c .before .before .before .before .before .before .before .before .before .before
+    .before in
+    let g = at _ _ _ _ _ (at-entry .pre .0 .passes) in omega arith
 
 edge-fit-requires : tie.Need-edge-fit-requires
-edge-fit-requires c κs = let g = at _ _ _ _ _ (c .before .before .before .before .before .before .before .before .before .before .before .pre .0 .passes) in omega arith
+edge-fit-requires c κs =
+    let at-entry = c .before .before .before .before .before .before .before .before .before .before
+    .before in
+    let g = at _ _ _ _ _ (at-entry .pre .0 .passes) in omega arith
 
 returns-4 : tie.Need-returns-4
 returns-4 c = λ h. absurd (false≢true h)
 
 mul-edge-fit-2 : tie.Need-mul-edge-fit-2
-mul-edge-fit-2 c = let g = at _ _ _ _ _ (c .before .before .before .before .before .before .before .before .before .before .before .before .before .pre .0 .passes) in omega arith
+mul-edge-fit-2 c =
+    let at-entry = c .before .before .before .before .before .before .before .before .before .before
+    .before .before .before in
+    let g = at _ _ _ _ _ (at-entry .pre .0 .passes) in omega arith
 
 shared-slice-read-edge-fit-2 : tie.Need-shared-slice-read-edge-fit-2
-shared-slice-read-edge-fit-2 c = let g = at _ _ _ _ _ (c .before .before .before .before .before .before .before .before .before .before .before .before .before .before .pre .0 .passes) in omega arith
+shared-slice-read-edge-fit-2 c =
+    let at-entry = c .before .before .before .before .before .before .before .before .before .before
+    .before .before .before .before in
+    let g = at _ _ _ _ _ (at-entry .pre .0 .passes) in omega arith
 
 edge-fit-requires-2 : tie.Need-edge-fit-requires-2
-edge-fit-requires-2 c κs = let g = at _ _ _ _ _ (c .before .before .before .before .before .before .before .before .before .before .before .before .before .before .pre .0 .passes) in omega arith
+edge-fit-requires-2 c κs =
+    let at-entry = c .before .before .before .before .before .before .before .before .before .before
+    .before .before .before .before in
+    let g = at _ _ _ _ _ (at-entry .pre .0 .passes) in omega arith
 
 returns-5 : tie.Need-returns-5
-returns-5 c = λ h. record { room = omega arith; dark = omega arith; gray = c .before .before .before .before .before .if3 .left; left = c .before .before .before .edge-fit .ensures (sym (not-no _ (c .before .before .if4 .left))); right = c .edge-fit2 .ensures h }
+returns-5 c =
+    λ h. record {
+      room = omega arith;
+      dark = omega arith;
+      gray =
+          c .before .before .before .before .before .if3 .left;
+      left =
+          c .before .before .before .edge-fit .ensures
+          (sym (not-no _ (c .before .before .if4 .left)));
+      right = c .edge-fit2 .ensures h;
+    }
 
 pub ripe-spec : {M : Type 1} → statement M
 ripe-spec =

@@ -1,4 +1,3 @@
-use Prim.Native.Nat.{_-_}
 use native.Mathlib.Omega.{arith}
 use borrow.Author.Needs.{needs}
 use Rattle.mark.specs.Spots.{standing}
@@ -13,16 +12,29 @@ stirring-requires : tie.Need-stirring-requires
 stirring-requires c κs = search needs
 
 marking-requires : tie.Need-marking-requires
-marking-requires c κs = (begins _ _ _ _ (c .before .before .before .before .before .before .before .pre .1 .1) _ _ _ _ (c .before .before .before .before .before .before .before .pre .0) (c .before .stirring .ensures .0) (c .before .stirring .ensures .1), c .before .before .before .before .before .before .before .pre .1 .0)
+marking-requires c κs =
+    let at-entry = c .before .before .before .before .before .before .before in (
+      begins _ _ _ _ (at-entry .pre .1 .1) _ _ _ _ (at-entry .pre .0)
+          (c .before .stirring .ensures .0) (c .before .stirring .ensures .1),
+      at-entry .pre .1 .0,
+    )
 
 standing-requires : tie.Need-standing-requires
-standing-requires c κs = let g = at _ _ _ _ _ (c .before .before .marking .ensures .known .passes) in omega arith
+standing-requires c κs = let g =
+    at _ _ _ _ _ (c .before .before .marking .ensures .known .passes) in omega arith
 
 same-length : tie.Need-same-length
 same-length c = search needs
 
 returns : tie.Need-returns
-returns c = (c .before .before .before .marking .ensures .known .within, rw (c .standing .ensures) (ends _ _ _ _ (c .before .before .before .before .before .before .before .before .before .before .before .pre .1 .1) _ _ _ _ _ (c .before .before .before .marking .ensures .leads)))
+returns c =
+    let at-entry = c .before .before .before .before .before .before .before .before .before .before
+    .before in (
+      c .before .before .before .marking .ensures .known .within,
+      rw (c .standing .ensures)
+          (ends _ _ _ _ (at-entry .pre .1 .1) _ _ _ _ _
+          (c .before .before .before .marking .ensures .leads)),
+    )
 
 pub scans-spec : {M : Type 1} → statement M
 scans-spec =

@@ -1,4 +1,3 @@
-use Prim.Native.Nat.{_-_}
 use native.Mathlib.Omega.{arith}
 use borrow.Author.Needs.{needs}
 use Rattle.mark.proofs.Marks.{few-left}
@@ -24,7 +23,26 @@ same-length : tie.Need-same-length
 same-length c = search needs
 
 returns : tie.Need-returns
-returns c = (omega arith, (λ m h k. c .newer .ensures m h k, (rw (c .before .before .before .blacken .ensures, c .before .before .before .before .before .before .before .light2 .ensures .1 .0, c .before .before .before .before .before .before .before .before .before .before .before .light .ensures .1 .0), few-left _ _ _ _ _ _ _ _ _ (omega arith) (omega arith) (omega arith) (c .before .before .before .before .before .before .before .before .before .before .before .before .before .before .pre .1 .1 .1) (c .before .before .before .before .before .before .before .before .before .before .before .light .ensures .1 .0) (c .before .before .before .before .before .before .before .light2 .ensures .1 .0) (c .before .before .before .blacken .ensures) (c .before .before .before .before .before .before .before .before .before .before .before .light .ensures .1 .1) (c .before .before .before .before .before .before .before .light2 .ensures .1 .1))))
+returns c =
+    let at-light2 = c .before .before .before .before .before .before .before in
+    let at-light = at-light2 .before .before .before .before in
+    let at-entry = at-light .before .before .before in (
+      omega arith,
+      (
+        λ m h k. c .newer .ensures m h k,
+        (
+          rw (
+            c .before .before .before .blacken .ensures,
+            at-light2 .light2 .ensures .1 .0,
+            at-light .light .ensures .1 .0,
+          ),
+          few-left _ _ _ _ _ _ _ _ _ (omega arith) (omega arith)
+              (omega arith) (at-entry .pre .1 .1 .1) (at-light .light .ensures .1 .0)
+              (at-light2 .light2 .ensures .1 .0) (c .before .before .before .blacken .ensures)
+              (at-light .light .ensures .1 .1) (at-light2 .light2 .ensures .1 .1),
+        ),
+      ),
+    )
 
 pub spread-spec : {M : Type 1} → statement M
 spread-spec =

@@ -1,5 +1,4 @@
 -- The fields that change are stored to, and the phase is set last: what stands in the definition.
-use Prim.Native.Nat.{_-_}
 use borrow.Author.Needs.{needs}
 use Rattle.mark.specs.Spots.{standing}
 use Rattle.mark.proofs.standing.Statement.{statement}
@@ -28,4 +27,5 @@ unfolding standing
 returns c = search needs
 
 pub standing-spec : {M : Type 1} → statement M
-standing-spec = tie.close (tie.spec cast-x add-x cast-x-2 cast-t4 cast-t5 with-phase-requires returns)
+standing-spec =
+    tie.close (tie.spec cast-x add-x cast-x-2 cast-t4 cast-t5 with-phase-requires returns)

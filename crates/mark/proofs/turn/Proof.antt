@@ -1,4 +1,3 @@
-use Prim.Native.Nat.{_-_}
 use mathlib.Core.Path.{sym}
 use borrow.Author.Needs.{needs}
 use Rattle.base.proofs.Tests.{not-no}
@@ -10,7 +9,9 @@ hop-requires : tie.Need-hop-requires
 hop-requires c κs = c .before .before .before .before .pre
 
 ripe-requires : tie.Need-ripe-requires
-ripe-requires c κs = (c .before .hop .ensures .known, c .before .before .before .before .before .before .pre .1)
+ripe-requires c κs =
+    let at-entry = c .before .before .before .before .before .before in
+    (c .before .hop .ensures .known, at-entry .pre .1)
 
 same-length : tie.Need-same-length
 same-length c = search needs
@@ -19,13 +20,23 @@ returns : tie.Need-returns
 returns c = c .before .before .before .hop .ensures
 
 visit-requires : tie.Need-visit-requires
-visit-requires c κs = (c .before .before .before .before .hop .ensures .known, (c .before .before .before .before .before .before .before .before .before .pre .1, (c .before .before .ripe .ensures (sym (not-no _ (c .before .if1 .left))))))
+visit-requires c κs =
+    let at-entry = c .before .before .before .before .before .before .before .before .before in (
+      c .before .before .before .before .hop .ensures .known,
+      (
+        at-entry .pre .1,
+        (c .before .before .ripe .ensures
+            (sym (not-no _ (c .before .if1 .left)))),
+      ),
+    )
 
 same-length-2 : tie.Need-same-length-2
 same-length-2 c = search needs
 
 returns-2 : tie.Need-returns-2
-returns-2 c = goes-on _ _ _ _ _ _ _ _ _ _ (c .before .before .before .before .before .before .before .hop .ensures) (c .before .before .visit .ensures)
+returns-2 c =
+    let at-hop = c .before .before .before .before .before .before .before in
+    goes-on _ _ _ _ _ _ _ _ _ _ (at-hop .hop .ensures) (c .before .before .visit .ensures)
 
 pub turn-spec : {M : Type 1} → statement M
 turn-spec =

@@ -1,4 +1,3 @@
-use Prim.Native.Nat.{_-_}
 use borrow.Author.Needs.{needs}
 use Rattle.rules.specs.Editor.{owedCode}
 use Rattle.places.proofs.owed_code.Statement.{statement}

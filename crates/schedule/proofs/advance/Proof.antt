@@ -18,7 +18,9 @@ same-length-3 : tie.Need-same-length-3
 same-length-3 c = search needs
 
 returns : tie.Need-returns
-returns c = (_, (c .before .before .before .before .before .before .before .step .ensures, c .after .ensures))
+returns c =
+    let at-step = c .before .before .before .before .before .before .before in
+    (_, (at-step .step .ensures, c .after .ensures))
 
 pub advance-spec : {M : Type 1} → statement M
 advance-spec =

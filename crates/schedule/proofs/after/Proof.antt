@@ -12,7 +12,8 @@ code-requires c κs = search needs
 
 returns : tie.Need-returns
 unfolding after
-returns c = let e = c .before .before .code .ensures in pick-no _ _ _ _ (code-no _ _ _ e (c .if1 .taken)) cc
+returns c = let e =
+    c .before .before .code .ensures in pick-no _ _ _ _ (code-no _ _ _ e (c .if1 .taken)) cc
 
 returns-2 : tie.Need-returns-2
 unfolding after

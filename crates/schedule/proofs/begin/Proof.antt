@@ -9,7 +9,8 @@ check-requires c κs = search needs
 
 returns : tie.Need-returns
 unfolding begun
-returns c = let e = c .before .check .ensures in pick-no _ _ _ _ (code-no _ _ _ e (c .if1 .taken)) cc
+returns c = let e =
+    c .before .check .ensures in pick-no _ _ _ _ (code-no _ _ _ e (c .if1 .taken)) cc
 
 returns-2 : tie.Need-returns-2
 unfolding begun

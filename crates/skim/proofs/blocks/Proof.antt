@@ -59,7 +59,11 @@ add-result-2 : tie.Need-add-result-2 Inv-loop μ-loop
 add-result-2 c = omega arith
 
 returns-2 : tie.Need-returns-2 Inv-loop μ-loop
-returns-2 c = (omega arith, stirs-over _ _ _ _ _ (omega arith) (c .before .before .loop .inv .1) (c .within2 .ensures .1))
+returns-2 c = (
+  omega arith,
+  stirs-over _ _ _ _ _ (omega arith) (c .before .before .loop .inv .1)
+      (c .within2 .ensures .1),
+)
 
 pub blocks-spec : {M : Type 1} → statement M
 blocks-spec =

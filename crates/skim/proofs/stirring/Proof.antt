@@ -36,7 +36,12 @@ loop-less : tie.Need-loop-less Inv-loop μ-loop
 loop-less c = omega arith
 
 loop-again : tie.Need-loop-again Inv-loop μ-loop
-loop-again c = (omega arith, omega arith, stirs-both _ _ _ _ _ _ (c .before .before .before .loop .inv .2) (c .wide .ensures ∙ c .before .block .ensures .1) refl)
+loop-again c = (
+  omega arith,
+  omega arith,
+  stirs-both _ _ _ _ _ _ (c .before .before .before .loop .inv .2)
+      (c .wide .ensures ∙ c .before .block .ensures .1) refl,
+)
 
 sub-few : tie.Need-sub-few Inv-loop μ-loop
 sub-few c = omega arith
@@ -48,7 +53,8 @@ add-result : tie.Need-add-result Inv-loop μ-loop
 add-result c = omega arith
 
 returns : tie.Need-returns Inv-loop μ-loop
-returns c = stirs-both _ _ _ _ _ _ (c .before .before .loop .inv .2) (c .few .ensures .1) (omega arith)
+returns c =
+    stirs-both _ _ _ _ _ _ (c .before .before .loop .inv .2) (c .few .ensures .1) (omega arith)
 
 pub stirring-spec : {M : Type 1} → statement M
 stirring-spec =

@@ -37,7 +37,12 @@ loop-less : tie.Need-loop-less Inv-loop μ-loop
 loop-less c = omega arith
 
 loop-again : tie.Need-loop-again Inv-loop μ-loop
-loop-again c = (omega arith, omega arith, upto-more _ _ _ _ _ (c .before .before .before .before .loop .inv .2) (c .lower .ensures .0) (λ h. c .before .place .ensures (omega arith)))
+loop-again c = (
+  omega arith,
+  omega arith,
+  upto-more _ _ _ _ _ (c .before .before .before .before .loop .inv .2)
+      (c .lower .ensures .0) (λ h. c .before .place .ensures (omega arith)),
+)
 
 wide-requires : tie.Need-wide-requires Inv-loop μ-loop
 wide-requires c κs = omega arith

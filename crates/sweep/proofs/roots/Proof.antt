@@ -1,4 +1,3 @@
-use Prim.Native.Nat.{_-_}
 use native.Mathlib.Omega.{arith}
 use borrow.Author.Needs.{needs}
 use Rattle.rules.proofs.Good.{good, inside}
@@ -15,22 +14,47 @@ add-least : tie.Need-add-least
 add-least c = search needs
 
 sub-least : tie.Need-sub-least
-sub-least c = let g = good _ _ _ _ (c .before .before .before .before .pre .0 .code) in let h = rw (c .before .before .before .before .pre .1 .1) at (inside _ _ _ (c .before .before .before .before .pre .0 .code)) in omega arith
+sub-least c = let g =
+    good _ _ _ _ (c .before .before .before .before .pre .0 .code) in
+    let h = rw (c .before .before .before .before .pre .1 .1) at
+    (inside _ _ _ (c .before .before .before .before .pre .0 .code)) in omega arith
 
 least-requires : tie.Need-least-requires
 least-requires c κs = search needs
 
 shading-requires : tie.Need-shading-requires
-shading-requires c κs = let g = good _ _ _ _ (c .before .before .before .before .before .before .pre .0 .code) in let h = rw (c .before .before .before .before .before .before .pre .1 .1) at (inside _ _ _ (c .before .before .before .before .before .before .pre .0 .code)) in omega arith
+shading-requires c κs =
+    let at-entry = c .before .before .before .before .before .before in
+    let g =
+    good _ _ _ _ (at-entry .pre .0 .code) in
+    let h = rw (at-entry .pre .1 .1) at (inside _ _ _ (at-entry .pre .0 .code)) in
+    omega arith
 
 rooted-requires : tie.Need-rooted-requires
-rooted-requires c κs = let g = good _ _ _ _ (c .before .before .before .before .before .before .before .before .before .pre .0 .code) in let h = rw (c .before .before .before .before .before .before .before .before .before .pre .1 .1) at (inside _ _ _ (c .before .before .before .before .before .before .before .before .before .pre .0 .code)) in let s = small _ _ (c .before .before .before .before .before .before .before .before .before .pre .0) (c .before .before .before .before .before .before .before .before .before .pre .1 .0) in omega arith
+rooted-requires c κs =
+    let at-entry = c .before .before .before .before .before .before .before .before .before in
+    let g =
+    good _ _ _ _ (at-entry .pre .0 .code) in
+    let h = rw (at-entry .pre .1 .1) at (inside _ _ _ (at-entry .pre .0 .code)) in
+    let s = small _ _ (at-entry .pre .0) (at-entry .pre .1 .0) in omega arith
 
 same-length : tie.Need-same-length
 same-length c = search needs
 
 returns : tie.Need-returns
-returns c = let g = good _ _ _ _ (c .before .before .before .before .before .before .before .before .before .before .pre .0 .code) in let h = rw (c .before .before .before .before .before .before .before .before .before .before .pre .1 .1) at (inside _ _ _ (c .before .before .before .before .before .before .before .before .before .before .pre .0 .code)) in (omega arith, rw (c .rooted .ensures) (c .before .before .before .shading .ensures .1 .leads _ _ _ (c .before .before .before .before .before .before .before .before .before .before .pre .0) (c .before .before .before .before .before .before .before .before .before .before .pre .1 .1) (fewer _ _ _ (c .before .before .before .before .before .least .ensures .0) (c .before .before .before .before .before .before .before .before .before .before .pre .1 .0)) (omega arith)))
+returns c =
+    let at-entry = c .before .before .before .before .before .before .before .before .before .before
+    in
+    let g =
+    good _ _ _ _ (at-entry .pre .0 .code) in
+    let h = rw (at-entry .pre .1 .1) at (inside _ _ _ (at-entry .pre .0 .code)) in (
+      omega arith,
+      rw (c .rooted .ensures)
+          (c .before .before .before .shading .ensures .1 .leads _ _ _ (at-entry .pre .0)
+          (at-entry .pre .1 .1) (fewer _ _ _
+          (c .before .before .before .before .before .least .ensures .0) (at-entry .pre .1 .0))
+          (omega arith)),
+    )
 
 pub roots-spec : {M : Type 1} → statement M
 roots-spec =

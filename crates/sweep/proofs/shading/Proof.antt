@@ -46,7 +46,13 @@ loop-less : tie.Need-loop-less Inv-loop μ-loop
 loop-less c = omega arith
 
 loop-again : tie.Need-loop-again Inv-loop μ-loop
-loop-again c = (omega arith, omega arith, rw (c .before .before .shade-node .ensures) (shades-more _ _ _ _ _ (c .before .before .before .before .before .before .before .loop .inv .2) (omega arith) (omega arith)))
+loop-again c =
+    let at-loop = c .before .before .before .before .before .before .before in (
+      omega arith,
+      omega arith,
+      rw (c .before .before .shade-node .ensures)
+          (shades-more _ _ _ _ _ (at-loop .loop .inv .2) (omega arith) (omega arith)),
+    )
 
 same-length-2 : tie.Need-same-length-2 Inv-loop μ-loop
 same-length-2 c = omega arith

@@ -1,4 +1,3 @@
-use Prim.Native.Nat.{_-_}
 use borrow.Author.Needs.{needs}
 use Rattle.rules.proofs.Laws.{on-left, on-right}
 use Rattle.table.proofs.edge.Statement.{statement}

@@ -1,4 +1,3 @@
-use Prim.Native.Nat.{_-_}
 use borrow.Author.Needs.{needs}
 use Rattle.rules.proofs.Laws.{set-left, set-right}
 use Rattle.table.proofs.set_edge.Statement.{statement}

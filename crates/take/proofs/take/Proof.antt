@@ -1,4 +1,3 @@
-use Prim.Native.Nat.{_-_}
 use mathlib.Core.Path.{sym, _∙_}
 use native.Mathlib.Omega.{arith}
 use borrow.Author.Needs.{needs}
@@ -20,7 +19,10 @@ returns c = rw step-taking (unless-refused _ _ _ _ (c .before .take-code .ensure
 
 take-from-requires : tie.Need-take-from-requires
 unfolding takeCode
-take-from-requires c κs = let z = zeros _ (sym (c .before .before .before .if1 .left) ∙ c .before .before .before .before .take-code .ensures) in let g = good _ _ _ _ (z .0) in let p = slot-below _ _ _ (z .1 .1 .0) in let d = side-below _ _ (z .1 .0) in omega arith
+take-from-requires c κs = let z =
+    zeros _ (sym (c .before .before .before .if1 .left)
+    ∙ c .before .before .before .before .take-code .ensures) in let g = good _ _ _ _ (z .0) in
+    let p = slot-below _ _ _ (z .1 .1 .0) in let d = side-below _ _ (z .1 .0) in omega arith
 
 same-length : tie.Need-same-length
 same-length c = search needs
@@ -33,7 +35,12 @@ same-length-3 c = search needs
 
 returns-2 : tie.Need-returns-2
 unfolding take takeCode
-returns-2 c = rw step-taking (unless-done _ _ _ _ _ (c .before .before .before .before .before .before .before .before .before .before .before .take-code .ensures) (c .before .before .before .before .before .before .before .before .before .before .if1 .left) (c .before .before .before .before .before .before .take-from .ensures))
+returns-2 c =
+    let at-take-from = c .before .before .before .before .before .before in
+    let at-if1 = at-take-from .before .before .before .before in
+    let at-take-code = at-if1 .before in
+    rw step-taking (unless-done _ _ _ _ _ (at-take-code .take-code .ensures) (at-if1 .if1 .left)
+    (at-take-from .take-from .ensures))
 
 pub take-spec : {M : Type 1} → statement M
 take-spec =

@@ -1,4 +1,3 @@
-use Prim.Native.Nat.{_-_}
 use mathlib.Core.Path.{refl, sym, _∙_}
 use native.Mathlib.Omega.{arith}
 use borrow.Author.Needs.{needs}
@@ -17,13 +16,21 @@ returns c = pick-yes _ _ _ _ (sym (c .if1 .taken) ∙ c .before .bad-free .ensur
 
 returns-2 : tie.Need-returns-2
 unfolding takeFirst
-returns-2 c = pick-no _ _ _ _ (sym (c .before .if1 .left) ∙ c .before .before .bad-free .ensures) (search (tests, needs) depth 12)
+returns-2 c =
+    pick-no _ _ _ _ (sym (c .before .if1 .left) ∙ c .before .before .bad-free .ensures)
+    (search (tests, needs) depth 12)
 
 edge-requires : tie.Need-edge-requires
-edge-requires c κs = let h = fine-free _ _ _ (sym (c .before .before .before .if1 .left) ∙ c .before .before .before .before .bad-free .ensures) in omega arith
+edge-requires c κs = let h =
+    fine-free _ _ _ (sym (c .before .before .before .if1 .left)
+    ∙ c .before .before .before .before .bad-free .ensures) in omega arith
 
 take-next-requires : tie.Need-take-next-requires
-take-next-requires c κs = let h = fine-free _ _ _ (sym (c .before .before .before .before .before .before .before .if1 .left) ∙ c .before .before .before .before .before .before .before .before .bad-free .ensures) in omega arith
+take-next-requires c κs =
+    let at-if1 = c .before .before .before .before .before .before .before in
+    let at-bad-free = at-if1 .before in
+    let h =
+    fine-free _ _ _ (sym (at-if1 .if1 .left) ∙ at-bad-free .bad-free .ensures) in omega arith
 
 same-length : tie.Need-same-length
 same-length c = search needs
@@ -36,7 +43,15 @@ same-length-3 c = search needs
 
 returns-3 : tie.Need-returns-3
 unfolding takeFirst
-returns-3 c = pick-no _ _ _ _ (sym (c .before .before .before .before .before .before .before .before .before .before .before .before .before .before .if1 .left) ∙ c .before .before .before .before .before .before .before .before .before .before .before .before .before .before .before .bad-free .ensures) (pick-no _ _ _ _ (eq-no _ _ (c .before .before .before .before .before .before .before .before .before .before .before .before .before .if2 .left)) (rw (← c .before .before .before .before .before .before .before .before .before .before .edge .ensures) (c .before .before .before .before .before .before .take-next .ensures)))
+returns-3 c =
+    let at-take-next = c .before .before .before .before .before .before in
+    let at-edge = at-take-next .before .before .before .before in
+    let at-if2 = at-edge .before .before .before in
+    let at-if1 = at-if2 .before in
+    let at-bad-free = at-if1 .before in
+    pick-no _ _ _ _ (sym (at-if1 .if1 .left) ∙ at-bad-free .bad-free .ensures)
+    (pick-no _ _ _ _ (eq-no _ _ (at-if2 .if2 .left))
+    (rw (← at-edge .edge .ensures) (at-take-next .take-next .ensures)))
 
 pub take-first-spec : {M : Type 1} → statement M
 take-first-spec =

@@ -1,4 +1,3 @@
-use Prim.Native.Nat.{_-_}
 use native.Mathlib.Omega.{arith}
 use borrow.Author.Needs.{needs}
 use Rattle.rules.proofs.Walks.{at-below}
@@ -25,7 +24,9 @@ same-length-2 : tie.Need-same-length-2
 same-length-2 c = search needs
 
 returns : tie.Need-returns
-returns c = halts _ _ _ _ _ _ (c .before .before .before .walk .ensures) (c .before .enum-told .given .1) (c .stood .ensures)
+returns c =
+    halts _ _ _ _ _ _ (c .before .before .before .walk .ensures) (c .before .enum-told .given .1)
+    (c .stood .ensures)
 
 same-length-3 : tie.Need-same-length-3
 same-length-3 c = search needs
@@ -34,13 +35,21 @@ same-length-4 : tie.Need-same-length-4
 same-length-4 c = search needs
 
 returns-2 : tie.Need-returns-2
-returns-2 c = absent _ _ _ _ _ (c .before .before .before .before .walk .ensures) (c .before .before .from .given .1) (c .if1 .taken)
+returns-2 c =
+    absent _ _ _ _ _ (c .before .before .before .before .walk .ensures)
+    (c .before .before .from .given .1) (c .if1 .taken)
 
 edge-requires : tie.Need-edge-requires
 edge-requires c κs = search needs
 
 take-first-requires : tie.Need-take-first-requires
-take-first-requires c κs = let n = at-below _ _ _ _ _ _ _ _ (c .before .before .before .before .before .before .before .before .before .before .walk .ensures) (c .before .before .before .before .before .before .before .before .from .given .1) (omega (arith, c .before .before .before .before .before .before .before .before .before .before .before .before .before .before .before .before .pre)) in omega (arith, c .before .before .before .before .before .before .before .before .before .before .before .before .before .before .before .before .pre)
+take-first-requires c κs =
+    let at-from = c .before .before .before .before .before .before .before .before in
+    let at-walk = at-from .before .before in
+    let at-entry = at-walk .before .before .before .before .before .before in
+    let n =
+    at-below _ _ _ _ _ _ _ _ (at-walk .walk .ensures) (at-from .from .given .1)
+    (omega (arith, at-entry .pre)) in omega (arith, at-entry .pre)
 
 same-length-5 : tie.Need-same-length-5
 same-length-5 c = search needs
@@ -52,7 +61,14 @@ same-length-7 : tie.Need-same-length-7
 same-length-7 c = search needs
 
 returns-3 : tie.Need-returns-3
-returns-3 c = departs _ _ _ _ _ _ (c .before .before .before .before .before .before .before .before .before .before .before .before .before .before .before .before .before .walk .ensures) (c .before .before .before .before .before .before .before .before .before .before .before .before .before .before .before .from .given .1) (c .before .before .before .before .before .before .before .before .before .before .before .before .before .if1 .left) (rw (← c .before .before .before .before .before .before .before .before .before .before .edge .ensures) (c .before .before .before .before .before .before .take-first .ensures))
+returns-3 c =
+    let at-take-first = c .before .before .before .before .before .before in
+    let at-edge = at-take-first .before .before .before .before in
+    let at-if1 = at-edge .before .before .before in
+    let at-from = at-if1 .before .before in
+    let at-walk = at-from .before .before in
+    departs _ _ _ _ _ _ (at-walk .walk .ensures) (at-from .from .given .1) (at-if1 .if1 .left)
+    (rw (← at-edge .edge .ensures) (at-take-first .take-first .ensures))
 
 pub take-from-spec : {M : Type 1} → statement M
 take-from-spec =

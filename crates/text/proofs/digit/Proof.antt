@@ -1,4 +1,3 @@
-use Prim.Native.Nat.{_-_}
 use borrow.Author.Needs.{needs}
 use Rattle.base.specs.Choice.{pick}
 use Rattle.text.specs.Answers.{digitOf, put, putAll}
@@ -28,7 +27,8 @@ same-length c = search needs
 
 returns-2 : tie.Need-returns-2
 unfolding digitOf pick putAll
-returns-2 c = rw (le-leb _ _ (c .before .before .before .before .if1 .left)) (c .before .before .put .ensures)
+returns-2 c =
+    rw (le-leb _ _ (c .before .before .before .before .if1 .left)) (c .before .before .put .ensures)
 
 pub digit-spec : {M : Type 1} → statement M
 digit-spec =

@@ -1,6 +1,4 @@
 -- `begin` meets its contract: the answer's code decides the stage, in `begun` as in the code.
-use mathlib.Core.Path.{_∙_}
-use native.Mathlib.Omega.{arith}
 use native.Mathlib.Nat.{sub-zero}
 use Rattle.transcript.proofs.Parts.{front}
 use Rattle.transcript.proofs.Stands.{begun-over, begun-serving}
@@ -39,7 +37,14 @@ same-length-4 : tie.Need-same-length-4
 same-length-4 c = search needs
 
 returns : tie.Need-returns
-returns c = let at-first = c .before .before .before .before .before .before .before .before .before .before .before .before .before in let at-least = at-first .before .before .before .before .before in begun-over _ _ _ _ _ _ _ _ _ _ _ _ _ _ _ _ (rw (sub-zero, at-least .least .ensures, front) at (at-first .first .ensures)) (c .before .before .before .before .before .say .ensures) (c .if1 .taken)
+returns c =
+    let at-before = c .before .before .before .before .before .before .before .before .before
+    .before .before .before in
+    let at-first = at-before .before in
+    let at-least = at-first .before .before .before .before .before in
+    begun-over _ _ _ _ _ _ _ _ _ _ _ _ _ _ _ _
+    (rw (sub-zero, at-least .least .ensures, front) at (at-first .first .ensures))
+    (c .before .before .before .before .before .say .ensures) (c .if1 .taken)
 
 cast-t14 : tie.Need-cast-t14
 cast-t14 c = search needs
@@ -57,7 +62,14 @@ same-length-8 : tie.Need-same-length-8
 same-length-8 c = search needs
 
 returns-2 : tie.Need-returns-2
-returns-2 c = let at-first = c .before .before .before .before .before .before .before .before .before .before .before .before .before .before in let at-least = at-first .before .before .before .before .before in begun-serving _ _ _ _ _ _ _ _ _ _ _ _ _ _ _ _ (rw (sub-zero, at-least .least .ensures, front) at (at-first .first .ensures)) (c .before .before .before .before .before .before .say .ensures) (c .before .if1 .left)
+returns-2 c =
+    let at-say = c .before .before .before .before .before .before in
+    let at-before = at-say .before .before .before .before .before .before .before in
+    let at-first = at-before .before in
+    let at-least = at-first .before .before .before .before .before in
+    begun-serving _ _ _ _ _ _ _ _ _ _ _ _ _ _ _ _
+    (rw (sub-zero, at-least .least .ensures, front) at (at-first .first .ensures))
+    (at-say .say .ensures) (c .before .if1 .left)
 
 pub begin-spec : {M : Type 1} → statement M
 begin-spec =

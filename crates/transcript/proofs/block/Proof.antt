@@ -1,4 +1,5 @@
--- `block` meets its contract: with its output empty the session stands in one of the three stages, and each is served as the bytes say.
+-- `block` meets its contract: with its output empty the session stands in one of the three stages,
+-- and each is served as the bytes say.
 use Rattle.transcript.proofs.Stands.{over, staged, blocks}
 use borrow.Author.Needs.{needs}
 use Rattle.transcript.proofs.block.Statement.{statement}
@@ -38,7 +39,15 @@ same-length-5 : tie.Need-same-length-5
 same-length-5 c = search needs
 
 returns : tie.Need-returns
-returns c = let at-opening = c .before .before .before .before .before .before .before .before .before .before in let at-emptied = at-opening .before .before .before .before .before .before .before .before .before in blocks _ _ _ _ (at-emptied .emptied .ensures _ _ _ _ _) (staged _ _ _ _ _ _ _ _ _ (at-opening .before .before .before .before .before .before .enum-told .given .1) (at-opening .opening .ensures))
+returns c =
+    let at-before = c .before .before .before .before .before .before .before .before .before in
+    let at-opening = at-before .before in
+    let at-emptied = at-opening .before .before .before .before .before .before .before .before
+    .before in
+    blocks _ _ _ _ (at-emptied .emptied .ensures _ _ _ _ _)
+    (staged _ _ _ _ _ _ _ _ _
+    (at-opening .before .before .before .before .before .before .enum-told .given .1)
+    (at-opening .opening .ensures))
 
 same-length-6 : tie.Need-same-length-6
 same-length-6 c = search needs
@@ -56,10 +65,20 @@ same-length-10 : tie.Need-same-length-10
 same-length-10 c = search needs
 
 returns-2 : tie.Need-returns-2
-returns-2 c = let at-serve = c .before .before .before .before .before .before .before .before .before .before in let at-emptied = at-serve .before .before .before .before .before .before .before .before .before .before in blocks _ _ _ _ (at-emptied .emptied .ensures _ _ _ _ _) (staged _ _ _ _ _ _ _ _ _ (at-serve .before .before .before .before .before .before .before .stage .given .1) (at-serve .serve .ensures))
+returns-2 c =
+    let at-before = c .before .before .before .before .before .before .before .before .before in
+    let at-serve = at-before .before in
+    let at-emptied = at-serve .before .before .before .before .before .before .before .before
+    .before .before in
+    blocks _ _ _ _ (at-emptied .emptied .ensures _ _ _ _ _)
+    (staged _ _ _ _ _ _ _ _ _
+    (at-serve .before .before .before .before .before .before .before .stage .given .1)
+    (at-serve .serve .ensures))
 
 returns-3 : tie.Need-returns-3
-returns-3 c = blocks _ _ _ _ (c .before .before .before .emptied .ensures _ _ _ _ _) (over _ _ (c .enum-told2 .given .1))
+returns-3 c =
+    blocks _ _ _ _ (c .before .before .before .emptied .ensures _ _ _ _ _)
+    (over _ _ (c .enum-told2 .given .1))
 
 pub block-spec : {M : Type 1} → statement M
 block-spec =

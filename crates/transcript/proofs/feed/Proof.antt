@@ -1,4 +1,5 @@
--- `feed` meets its contract: what the bytes from the next position on make of where the lines stand is the same after each turn.
+-- `feed` meets its contract: what the bytes from the next position on make of where the lines stand
+-- is the same after each turn.
 use Prim.Native.Nat.{_-_}
 use mathlib.Core.Path.{_≡_, refl, _∙_}
 use lib.ListN.{length, drop, drop-of-length-le}
@@ -10,10 +11,15 @@ use Rattle.transcript.proofs.feed.Tie as tie
 
 abbrev Inv-loop : tie.InvT-loop
 Inv-loop left₀ right₀ colour₀ line₀ out₀ input i run₀ next₀ left right colour line out run next =
-    (length left ≡ length left₀) × (length right ≡ length right₀) × (length colour ≡ length colour₀) × (length line ≡ length line₀) × (length out ≡ length out₀) × (fold nextByte (drop i input) (going run₀ left₀ right₀ colour₀ line₀ out₀) ≡ fold nextByte (drop next input) (going run left right colour line out))
+    (length left ≡ length left₀) × (length right ≡ length right₀) ×
+    (length colour ≡ length colour₀) × (length line ≡ length line₀) ×
+    (length out ≡ length out₀) × (fold nextByte (drop i input)
+    (going run₀ left₀ right₀ colour₀ line₀ out₀)
+    ≡ fold nextByte (drop next input) (going run left right colour line out))
 
 abbrev μ-loop : tie.MeasureT-loop
-μ-loop left₀ right₀ colour₀ line₀ out₀ input i run₀ next₀ left right colour line out run next = length input - next
+μ-loop left₀ right₀ colour₀ line₀ out₀ input i run₀ next₀ left right colour line out run next =
+    length input - next
 
 loop-holds : tie.Need-loop-holds Inv-loop μ-loop
 loop-holds c = (refl, refl, refl, refl, refl, refl)
@@ -22,10 +28,28 @@ next-line-requires : tie.Need-next-line-requires Inv-loop μ-loop
 next-line-requires c κs = omega arith
 
 loop-less : tie.Need-loop-less Inv-loop μ-loop
-loop-less c = let at-line = c .before .before .before .before .before .before .before .before .before .before .before in let at-test = at-line .before .before .before .before .before .before in let h = line-gains _ _ _ _ (at-line .next-line .ensures) (at-test .loop-test .taken) in omega arith
+loop-less c =
+    let at-before = c .before .before .before .before .before .before .before .before .before
+    .before in
+    let at-line = at-before .before in
+    let at-test = at-line .before .before .before .before .before .before in
+    let h = line-gains _ _ _ _ (at-line .next-line .ensures) (at-test .loop-test .taken) in
+    omega arith
 
 loop-again : tie.Need-loop-again Inv-loop μ-loop
-loop-again c = let at-line = c .before .before .before .before .before .before .before .before .before .before .before in let at-loop = at-line .before .before .before .before .before .before .before in (omega arith, omega arith, omega arith, omega arith, omega arith, at-loop .loop .inv .5 ∙ line-turn _ _ _ _ (at-line .next-line .ensures))
+loop-again c =
+    let at-before = c .before .before .before .before .before .before .before .before .before
+    .before in
+    let at-line = at-before .before in
+    let at-loop = at-line .before .before .before .before .before .before .before in (
+      omega arith,
+      omega arith,
+      omega arith,
+      omega arith,
+      omega arith,
+      at-loop .loop .inv .5
+          ∙ line-turn _ _ _ _ (at-line .next-line .ensures),
+    )
 
 same-length : tie.Need-same-length Inv-loop μ-loop
 same-length c = omega arith

@@ -1,4 +1,5 @@
--- `finish` meets its contract: a line at hand is ended by a newline, and where there is none nothing is printed.
+-- `finish` meets its contract: a line at hand is ended by a newline, and where there is none
+-- nothing is printed.
 use mathlib.Core.Path.{sym, _∙_}
 use Rattle.base.proofs.Tests.{pick-yes, pick-no}
 use Rattle.transcript.specs.Feeding.{finish}
@@ -14,7 +15,9 @@ emptied-requires c κs = search needs
 
 returns : tie.Need-returns
 unfolding finish
-returns c = pick-yes _ _ _ _ (sym (c .before .if1 .taken) ∙ c .before .before .bare .ensures) (c .emptied .ensures _ _ _ _ _)
+returns c =
+    pick-yes _ _ _ _ (sym (c .before .if1 .taken) ∙ c .before .before .bare .ensures)
+    (c .emptied .ensures _ _ _ _ _)
 
 slice-aggregate-block : tie.Need-slice-aggregate-block
 slice-aggregate-block c = search needs
@@ -39,7 +42,12 @@ same-length-5 c = search needs
 
 returns-2 : tie.Need-returns-2
 unfolding finish
-returns-2 c = let at-block = c .before .before .before .before .before .before .before .before .before .before in let at-test = at-block .before .before .before .before .before .before .before in pick-no _ _ _ _ (sym (at-test .if1 .left) ∙ at-test .before .bare .ensures) (at-block .block .ensures)
+returns-2 c =
+    let at-before = c .before .before .before .before .before .before .before .before .before in
+    let at-block = at-before .before in
+    let at-test = at-block .before .before .before .before .before .before .before in
+    pick-no _ _ _ _ (sym (at-test .if1 .left) ∙ at-test .before .bare .ensures)
+    (at-block .block .ensures)
 
 pub finish-spec : {M : Type 1} → statement M
 finish-spec =

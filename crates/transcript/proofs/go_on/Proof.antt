@@ -1,4 +1,5 @@
--- `go_on` meets its contract: after the first line the table is served, or the run is over and stays so.
+-- `go_on` meets its contract: after the first line the table is served, or the run is over and
+-- stays so.
 use Rattle.transcript.proofs.Stands.{over, staged}
 use borrow.Author.Needs.{needs}
 use Rattle.transcript.proofs.go_on.Statement.{statement}
@@ -17,7 +18,9 @@ enum-told-2 : tie.Need-enum-told-2
 enum-told-2 c = search needs
 
 returns : tie.Need-returns
-returns c = absurd (c .before .before .before .before .before .before .before .before .before .pre (c .enum-told .given .1))
+returns c =
+    let at-entry = c .before .before .before .before .before .before .before .before .before in
+    absurd (at-entry .pre (c .enum-told .given .1))
 
 same-length : tie.Need-same-length
 same-length c = search needs
@@ -35,7 +38,12 @@ same-length-5 : tie.Need-same-length-5
 same-length-5 c = search needs
 
 returns-2 : tie.Need-returns-2
-returns-2 c = let at-serve = c .before .before .before .before .before .before .before .before .before .before in staged _ _ _ _ _ _ _ _ _ (at-serve .before .before .before .before .before .before .before .stage .given .1) (at-serve .serve .ensures)
+returns-2 c =
+    let at-before = c .before .before .before .before .before .before .before .before .before in
+    let at-serve = at-before .before in
+    staged _ _ _ _ _ _ _ _ _
+    (at-serve .before .before .before .before .before .before .before .stage .given .1)
+    (at-serve .serve .ensures)
 
 returns-3 : tie.Need-returns-3
 returns-3 c = over _ _ (c .enum-told2 .given .1)

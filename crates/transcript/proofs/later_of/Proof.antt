@@ -1,5 +1,5 @@
--- `later_of` meets its contract: the part of the line that is lent is its first n bytes, or all of them.
-use native.Mathlib.Omega.{arith}
+-- `later_of` meets its contract: the part of the line that is lent is its first n bytes, or all of
+-- them.
 use native.Mathlib.Nat.{sub-zero}
 use Rattle.transcript.proofs.Parts.{front}
 use borrow.Author.Needs.{needs}
@@ -31,7 +31,10 @@ same-length-3 : tie.Need-same-length-3
 same-length-3 c = search needs
 
 returns : tie.Need-returns
-returns c = let at-later = c .before .before .before .before .before .before in let at-least = at-later .before .before .before .before .before in rw (sub-zero, at-least .least .ensures, front) at (at-later .later .ensures)
+returns c =
+    let at-later = c .before .before .before .before .before .before in
+    let at-least = at-later .before .before .before .before .before in
+    rw (sub-zero, at-least .least .ensures, front) at (at-later .later .ensures)
 
 pub later-of-spec : {M : Type 1} → statement M
 later-of-spec =

@@ -1,7 +1,5 @@
--- `serve` meets its contract: the three parts that are lent are the table, and what lies behind them stays.
-use Prim.Native.Nat.{_-_}
-use mathlib.Core.Path.{_≡_}
-use lib.ListN.{length, take}
+-- `serve` meets its contract: the three parts that are lent are the table, and what lies behind
+-- them stays.
 use native.Mathlib.Omega.{arith}
 use Rattle.transcript.proofs.Parts.{lent}
 use Rattle.transcript.proofs.Stands.{served}
@@ -64,7 +62,16 @@ same-length-5 : tie.Need-same-length-5
 same-length-5 c = search needs
 
 returns : tie.Need-returns
-returns c = let at-feed = c .before .before .before .before .before .before .before .before .before .before in let at-least = at-feed .before .before .before .before .before .before in let at-entry = at-least .before .before .before .before .before .before .before .before .before in served _ _ _ _ _ _ _ _ _ _ _ _ _ _ _ _ _ (lent _ _ _ _ (at-least .before .before .least .ensures) (omega arith)) (lent _ _ _ _ (at-least .before .least2 .ensures) (omega arith)) (lent _ _ _ _ (at-least .least3 .ensures) (omega arith)) (at-feed .feed .ensures)
+returns c =
+    let at-before = c .before .before .before .before .before .before .before .before .before in
+    let at-feed = at-before .before in
+    let at-least = at-feed .before .before .before .before .before .before in
+    let at-entry = at-least .before .before .before .before .before .before .before .before
+    .before in
+    served _ _ _ _ _ _ _ _ _ _ _ _ _ _ _ _ _
+    (lent _ _ _ _ (at-least .before .before .least .ensures) (omega arith))
+    (lent _ _ _ _ (at-least .before .least2 .ensures) (omega arith))
+    (lent _ _ _ _ (at-least .least3 .ensures) (omega arith)) (at-feed .feed .ensures)
 
 pub serve-spec : {M : Type 1} → statement M
 serve-spec =

@@ -1,4 +1,5 @@
--- `turn` meets its contract: no byte is the end of the input, and else the part that is lent is what was read.
+-- `turn` meets its contract: no byte is the end of the input, and else the part that is lent is
+-- what was read.
 use native.Mathlib.Nat.{sub-zero}
 use Rattle.base.proofs.Tests.{pick-yes, pick-no, eq-yes, eq-no}
 use Rattle.transcript.specs.Feeding.{turn}
@@ -27,7 +28,12 @@ same-length-5 c = search needs
 
 returns : tie.Need-returns
 unfolding turn
-returns c = let at-finish = c .before .before .before .before .before .before .before .before .before .before in pick-yes _ _ _ _ (eq-yes _ _ (at-finish .before .before .before .before .before .before .if1 .taken)) (at-finish .finish .ensures)
+returns c =
+    let at-before = c .before .before .before .before .before .before .before .before .before in
+    let at-finish = at-before .before in
+    pick-yes _ _ _ _
+    (eq-yes _ _ (at-finish .before .before .before .before .before .before .if1 .taken))
+    (at-finish .finish .ensures)
 
 least-requires : tie.Need-least-requires
 least-requires c κs = search needs
@@ -61,7 +67,12 @@ same-length-10 c = search needs
 
 returns-2 : tie.Need-returns-2
 unfolding turn
-returns-2 c = let at-block = c .before .before .before .before .before .before .before .before .before .before in let at-least = at-block .before .before .before .before .before .before .before in pick-no _ _ _ _ (eq-no _ _ (at-least .before .if1 .left)) (rw (sub-zero, at-least .least .ensures, front) at (at-block .block .ensures))
+returns-2 c =
+    let at-before = c .before .before .before .before .before .before .before .before .before in
+    let at-block = at-before .before in
+    let at-least = at-block .before .before .before .before .before .before .before in
+    pick-no _ _ _ _ (eq-no _ _ (at-least .before .if1 .left))
+    (rw (sub-zero, at-least .least .ensures, front) at (at-block .block .ensures))
 
 pub turn-spec : {M : Type 1} → statement M
 turn-spec =

@@ -1,5 +1,5 @@
 -- Before each turn the words that were looked at are within their widths; one that is not decides.
-use Prim.Native.Nat.{ℕ, _-_, _≤_}
+use Prim.Native.Nat.{_-_, _≤_}
 use native.Mathlib.Omega.{arith}
 use mathlib.Core.Bool.{true}
 use mathlib.Core.Path.{_≡_}
@@ -43,7 +43,11 @@ loop-less : tie.Need-loop-less Inv-loop μ-loop
 loop-less c = omega arith
 
 loop-again : tie.Need-loop-again Inv-loop μ-loop
-loop-again c = (goes-on _ _ _ (c .before .before .before .most .ensures) (c .before .before .loop .inv .0) (c .if1 .left), omega arith)
+loop-again c = (
+  goes-on _ _ _ (c .before .before .before .most .ensures) (c .before .before .loop .inv .0)
+      (c .if1 .left),
+  omega arith,
+)
 
 returns-2 : tie.Need-returns-2 Inv-loop μ-loop
 returns-2 c = let z : c .before .loop .n ≡ 16 = omega arith in rw z at (c .before .loop .inv .0)

@@ -25,7 +25,8 @@ laid-out-requires c κs = search needs
 
 returns : tie.Need-returns
 returns c =
-    let x = c .before .before .before .before .before .before .args .x in
+    let at-entry = c .before .before .before .before .before .before in
+    let x = at-entry .args .x in
     words-are x _ (cc) (omega (arith, tag-most (x .phase), owes-most (x .owed)))
 
 pub words-of-spec : {M : Type 1} → statement M

@@ -1,4 +1,3 @@
-use Prim.Native.Nat.{_-_}
 use borrow.Author.Needs.{needs}
 use Rattle.rules.proofs.Record.closed.Statement.{statement}
 use Rattle.rules.proofs.Record.closed.Tie as tie

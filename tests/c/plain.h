@@ -8,21 +8,21 @@ enum phase { ROOTS, SCAN, LEFT, RIGHT, BLACK, APPEND };
 enum kind { REFUSED, STARTED, NAMED, LINKED, TAKEN, SHADED, LOOKED, BLACKENED, WHITENED, APPENDED };
 
 struct record {
-  uint16_t m, r, phase, i, k;
-  uint16_t owes, owed; /* whether a shade is owed, and for which node */
-  uint16_t last;
-  uint32_t steps, cycles, took;
-  uint16_t blackened, inuse;
+    uint16_t m, r, phase, i, k;
+    uint16_t owes, owed; /* whether a shade is owed, and for which node */
+    uint16_t last;
+    uint32_t steps, cycles, took;
+    uint16_t blackened, inuse;
 };
 
 struct answer {
-  uint16_t kind, code, node;
+    uint16_t kind, code, node;
 };
 
 struct table {
-  uint16_t *left, *right;
-  uint8_t *colour;
-  size_t lefts, rights, colours; /* the lengths */
+    uint16_t *left, *right;
+    uint8_t *colour;
+    size_t lefts, rights, colours; /* the lengths */
 };
 
 int plain_check(const struct table *t, const struct record *x);
