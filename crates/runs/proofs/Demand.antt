@@ -149,7 +149,7 @@ demand {E} {m} {r} {n} {s} v = record {
   edges = v .sound .rows .count;
   nodes = v .nodes;
   slots = v .slots;
-  accepted = accepts (v .sound);
+  accepted = λ c h. omega (arith, accepts (v .sound) c h);
   mild = answers (v .sound);
   unchanged = leaves (v .sound);
   spares = λ c x q a. appends-garbage (v .sound) c x q (reach-from (λ n h. omega arith) a);
@@ -162,11 +162,11 @@ demand {E} {m} {r} {n} {s} v = record {
         v .sound .fits .told .took,
         same-bound,
       );
-  steps = ap (λ (n : Count). n .since) (v .counts);
-  took = ap (λ (n : Count). n .took) (v .counts);
-  cycles = ap (λ (n : Count). n .cycles) (v .counts);
-  blackened = ap (λ (n : Count). n .blackened) (v .counts);
-  inuse = ap (λ (n : Count). n .marked) (v .counts);
+  steps = omega (arith, ap (λ (n : Count). n .since) (v .counts));
+  took = omega (arith, ap (λ (n : Count). n .took) (v .counts));
+  cycles = omega (arith, ap (λ (n : Count). n .cycles) (v .counts));
+  blackened = omega (arith, ap (λ (n : Count). n .blackened) (v .counts));
+  inuse = omega (arith, ap (λ (n : Count). n .marked) (v .counts));
   appended = λ x hx a cs l.
       let u =
       subst (λ r. Garbage E (suc (suc r)) (edge s) x) (v .slots)
