@@ -64,13 +64,14 @@ tells s t l k c line out l′ k′ c′ line′ out′ e =
     let q : s .run .rec ≡ t .run .rec = ap (λ (x : Stand). x .going .state .rec) e in
     let a : s .run .at ≡ t .run .at = ap (λ (x : Stand). x .going .line .used) e in
     let u : s .run .used ≡ t .run .used = ap (λ (x : Stand). x .going .out .used) e in
-    let all : session (s .stage) (s .run .rec) (s .run .at) (s .run .used) ≡ session (t .stage) (t .run .rec) (t .run .at) (t .run .used) = rw (p, q, a, u) in
-    (all,
-    sym (take-append-drop (held (s .stage)) l) ∙ ap (λ (x : Stand). getD (x .going .state .edges) 0 [] ++ x .left) e ∙ take-append-drop (held (t .stage)) l′,
-    sym (take-append-drop (held (s .stage)) k) ∙ ap (λ (x : Stand). getD (x .going .state .edges) 1 [] ++ x .right) e ∙ take-append-drop (held (t .stage)) k′,
-    sym (take-append-drop (held (s .stage)) c) ∙ ap (λ (x : Stand). x .going .state .colour ++ x .colour) e ∙ take-append-drop (held (t .stage)) c′,
-    ap (λ (x : Stand). x .going .line .out) e,
-    ap (λ (x : Stand). x .going .out .out) e)
+    let all : session (s .stage) (s .run .rec) (s .run .at) (s .run .used) ≡ session (t .stage) (t .run .rec) (t .run .at) (t .run .used) = rw (p, q, a, u) in (
+      all,
+      sym (take-append-drop (held (s .stage)) l) ∙ ap (λ (x : Stand). getD (x .going .state .edges) 0 [] ++ x .left) e ∙ take-append-drop (held (t .stage)) l′,
+      sym (take-append-drop (held (s .stage)) k) ∙ ap (λ (x : Stand). getD (x .going .state .edges) 1 [] ++ x .right) e ∙ take-append-drop (held (t .stage)) k′,
+      sym (take-append-drop (held (s .stage)) c) ∙ ap (λ (x : Stand). x .going .state .colour ++ x .colour) e ∙ take-append-drop (held (t .stage)) c′,
+      ap (λ (x : Stand). x .going .line .out) e,
+      ap (λ (x : Stand). x .going .out .out) e,
+    )
 
 pub block-determined : (κs : _) (a : _) (r r′ : _) (s s′ : _) → block.Learnt κs a r s → block.Learnt κs a r′ s′
     → Same r r′ (now (s .0)) (now (s .1 .0)) (now (s .1 .1 .0)) (now (s .1 .1 .1 .0)) (now (s .1 .1 .1 .1 .0))
