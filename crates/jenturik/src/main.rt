@@ -4,6 +4,8 @@
 // part goes on behind it. A program has no exit status: one line on standard error says how the run
 // ended, unless all was answered.
 use transcript::Session;
+ghost use Prim.Native.Nat.{_≤_};
+ghost use lib.ListN.{length};
 
 // A block of the input, and an output with room for its answers: a line has at least its newline,
 // an answer at most 22 bytes.
@@ -11,12 +13,19 @@ const BLOCK: usize = 16384;
 
 const OUT: usize = 360448;
 
-// How a run ends.
-pub enum Ending {
+// How a run stands: it goes on, or has ended so.
+pub enum Standing {
+    Going,
     Answered,
     Refused,
     Unread,
     Unwritten,
+}
+
+// Where a block led, and how the run stands.
+pub struct Led {
+    pub s: Session,
+    pub standing: Standing,
 }
 
 // Whether a call that failed is made again: it was interrupted, or the other side is not ready.
@@ -46,7 +55,9 @@ fn read(input: &mut [u8]) -> isize {
 }
 
 // Writes a part of the bytes: how many were taken, 0 where they cannot be written.
-fn write_some(bytes: &[u8]) -> usize {
+fn write_some(bytes: &[u8]) -> usize
+    ensures { λ r. ⌜ r ≤ length (now (bytes .entry)) ⌝ }
+{
     let mut tries = u64::MAX;
     while 0 < tries {
         let put = libc::write(libc::STDOUT_FILENO, bytes);
@@ -81,7 +92,48 @@ fn write_used(out: &[u8], s: Session) -> bool {
     if out.len() < used {
         return false;
     }
-    write(&out[..used])
+    write(&out[0..used])
+}
+
+// How the run stands after a block of n bytes, none at the end of the input, whose answers were written or not.
+fn after(written: bool, s: Session, n: usize) -> Standing {
+    if !written {
+        return Standing::Unwritten;
+    }
+    if transcript::is_over(s) {
+        return Standing::Refused;
+    }
+    if n == 0 {
+        return Standing::Answered;
+    }
+    Standing::Going
+}
+
+fn goes_on(standing: Standing) -> bool {
+    match standing {
+        Standing::Going => true,
+        Standing::Answered => false,
+        Standing::Refused => false,
+        Standing::Unread => false,
+        Standing::Unwritten => false,
+    }
+}
+
+// Answers what a read delivered, and writes the answers.
+fn answer(
+    left: &mut [u16],
+    right: &mut [u16],
+    colour: &mut [u8],
+    line: &mut [u8],
+    out: &mut [u8],
+    s: Session,
+    input: &[u8],
+    got: isize,
+) -> Led {
+    let n = io::count(got, input);
+    let s = transcript::turn(left, right, colour, line, out, s, input, n);
+    let standing = after(write_used(out, s), s, n);
+    Led { s, standing }
 }
 
 // Reads, answers and writes, a block after the other.
@@ -92,48 +144,37 @@ fn serve(
     line: &mut [u8],
     out: &mut [u8],
     input: &mut [u8],
-) -> Ending {
+) -> Standing {
     let mut s = transcript::start();
-    let mut turns = u64::MAX;
-    while 0 < turns {
+    let mut blocks = u64::MAX;
+    while 0 < blocks {
         let got = read(input);
         if got < 0 {
-            return Ending::Unread;
+            return Standing::Unread;
         }
-        let n = io::count(got, input);
-        s = transcript::turn(left, right, colour, line, out, s, input, n);
-        if !write_used(out, s) {
-            return Ending::Unwritten;
+        let led = answer(left, right, colour, line, out, s, input, got);
+        let standing = led.standing;
+        s = led.s;
+        if !goes_on(standing) {
+            return standing;
         }
-        if transcript::is_over(s) {
-            return Ending::Refused;
-        }
-        if n == 0 {
-            return Ending::Answered;
-        }
-        turns -= 1;
+        blocks -= 1;
     }
-    Ending::Unread
+    Standing::Unread
 }
 
-fn complain(ending: Ending) {
-    match ending {
-        Ending::Answered => {}
-        Ending::Refused => {
-            io::write_all(
-                libc::STDERR_FILENO,
-                b"jenturik: the first line is refused\n",
-            );
-        }
-        Ending::Unread => {
-            io::write_all(libc::STDERR_FILENO, b"jenturik: the input cannot be read\n");
-        }
-        Ending::Unwritten => {
-            io::write_all(
-                libc::STDERR_FILENO,
-                b"jenturik: the output cannot be written\n",
-            );
-        }
+fn complain(text: &[u8]) {
+    io::write_all(libc::STDERR_FILENO, text);
+}
+
+// How the run ended, unless all was answered.
+fn tell(standing: Standing) {
+    match standing {
+        Standing::Going => {}
+        Standing::Answered => {}
+        Standing::Refused => complain(b"jenturik: the first line is refused\n"),
+        Standing::Unread => complain(b"jenturik: the input cannot be read\n"),
+        Standing::Unwritten => complain(b"jenturik: the output cannot be written\n"),
     }
 }
 
@@ -144,7 +185,7 @@ fn main() {
     let mut line = [0u8; transcript::LINE];
     let mut input = [0u8; BLOCK];
     let mut out = [0u8; OUT];
-    let ending = serve(
+    let standing = serve(
         &mut left,
         &mut right,
         &mut colour,
@@ -152,5 +193,5 @@ fn main() {
         &mut out,
         &mut input,
     );
-    complain(ending);
+    tell(standing);
 }

@@ -4,3 +4,4 @@ pub mod Parts
 pub mod Stands
 pub mod Whole
 pub mod Listing
+pub mod Determined
