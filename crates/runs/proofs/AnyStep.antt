@@ -1,8 +1,9 @@
 -- Any step from a sound state is one of three: a collector step after which the cycle goes on, one that completes it, or an editor's.
 -- It leaves a sound state.
-use Prim.Native.Nat.{ℕ, suc, _+_}
+use Prim.Native.Nat.{ℕ}
 use mathlib.Core.Bool.{Bool, true, false}
-use mathlib.Core.Path.{_≡_, refl, sym}
+use mathlib.Core.Path.{_≡_, refl, sym, ap}
+use mathlib.Core.Option.{none}
 use mathlib.Core.List.{[], _∷_}
 use borrow.Author.Tests.{eqb-true}
 use Rattle.base.specs.Choice.{pick, first}
@@ -15,14 +16,14 @@ use Rattle.rules.specs.declared.Step.{Step}
 use Rattle.theory.proofs.Steps as S
 use S.{Tick, goes, ends, CStep}
 use Rattle.theory.proofs.Keep.{keep-editor}
-use Rattle.runs.specs.Runs.{after, collector, lastAppend, completes}
+use Rattle.runs.specs.Runs.{after, collector, kind, firstAppend, lastAppend, completes, marks, Count, going, closing, told}
 use Rattle.runs.specs.Demand.{Mild}
 use Rattle.runs.proofs.Picks.{if-no}
 use Rattle.runs.proofs.Codes.{mild, mild-first}
 use Rattle.runs.proofs.Tables.{rows-kept}
-use Rattle.runs.proofs.Bill.{kind, bill-edit}
+use Rattle.runs.proofs.Bill.{bill-edit}
 use Rattle.runs.proofs.Sound.{abs, top, Sound, sizes, Ready, ready}
-use Rattle.runs.proofs.Made.{act, blackens, Ticked, on, over, Made}
+use Rattle.runs.proofs.Made.{act, named, counts, Ticked, on, over, Made}
 use Rattle.runs.proofs.AppendStep.{collect-made, sound-made}
 use Rattle.runs.proofs.Edited.{Edited, refused, made-there}
 use Rattle.runs.proofs.LinkStep.{look-edited, link-edited}
@@ -32,14 +33,14 @@ pub record Collected (E : ℕ) (c : Step) (s : State) (tk : Tick) : Type 0 where
   pub kind : collector c ≡ true
   pub made : CStep E (s .rec .m) (top s) (abs E s) (abs E (after c s)) (act (step c s .answer)) tk
   pub code : codeOf (step c s .answer) ≡ 0
+  pub named : named (step c s .answer) ≡ none
   pub nodes : after c s .rec .m ≡ s .rec .m
   pub slots : after c s .rec .r ≡ s .rec .r
   pub sound : Sound E (after c s)
 
 pub data Stepped (E : ℕ) (c : Step) (s : State) : Type 0 where
-  goes-on : completes c s ≡ false → after c s .rec .steps ≡ suc (s .rec .steps) → after c s .rec .took ≡ s .rec .took
-      → after c s .rec .blackened ≡ s .rec .blackened + blackens (step c s .answer) → Collected E c s goes → Stepped E c s
-  closes : completes c s ≡ true → after c s .rec .steps ≡ 0 → after c s .rec .took ≡ suc (s .rec .steps) → Collected E c s ends → Stepped E c s
+  goes-on : completes c s ≡ false → counts (after c s .rec) ≡ going (told c s) (counts (s .rec)) → Collected E c s goes → Stepped E c s
+  closes : completes c s ≡ true → counts (after c s .rec) ≡ closing (counts (s .rec)) → Collected E c s ends → Stepped E c s
   edits : completes c s ≡ false → collector c ≡ false → Edited E s (kind E (s .rec .phase)) (step c s) → Stepped E c s
 
 collects-is : (c : Step) (s : State) → collector c ≡ true → step c s ≡ collect s
@@ -56,7 +57,7 @@ edits-is {E} c s {ph} g h = split (Edited E s ph) _ _ _ (λ a. take-edited g _ _
     unreadable = mild-first (check s ∷ 10 ∷ []) (rw (← g .good) (mild refl), (mild refl, tt))
 
 pub stepped : {E : ℕ} (c : Step) (s : State) → Sound E s → Stepped E c s
-unfolding completes
+unfolding completes marks
 stepped {E} c s g = go (collector c) refl
   where
     go : (b : Bool) → collector c ≡ b → Stepped E c s
@@ -66,15 +67,18 @@ stepped {E} c s g = go (collector c) refl
         k = rw (collects-is c s h) (collect-made g)
 
         done : {t : Tick} → CStep E (s .rec .m) (top s) (abs E s) (abs E (after c s)) (act (step c s .answer)) t → Collected E c s t
-        done d = record { kind = h; made = d; code = k .code; nodes = k .nodes; slots = k .slots; sound = sound-made g k }
+        done d = record { kind = h; made = d; code = k .code; named = k .named; nodes = k .nodes; slots = k .slots; sound = sound-made g k }
 
-        test : (b : Bool) → lastAppend (s .rec .m) (s .rec .phase) ≡ b → completes c s ≡ b
-        test b e = sym (every-skip _ _ _ (sym h) (every-last _ _ (sym e)))
+        test : (b : Bool) → lastAppend (s .rec .m) (kind E (s .rec .phase)) ≡ b → completes c s ≡ b
+        test b e = rw (g .rows .count) (sym (every-skip _ _ _ (sym h) (every-last _ _ (sym e))))
+
+        marks-is : marks c s ≡ firstAppend (kind E (after c s .rec .phase))
+        marks-is = rw (g .rows .count) (sym (every-skip _ _ _ (sym h) (every-last _ _ refl)))
 
         by : {t : Tick} → CStep E (s .rec .m) (top s) (abs E s) (abs E (after c s)) (act (step c s .answer)) t
-            → Ticked (s .rec) (after c s .rec) (s .rec .phase) (step c s .answer) t → Stepped E c s
-        by d (on e a b x) = goes-on (test false e) a b x (done d)
-        by d (over e a b) = closes (test true e) a b (done d)
+            → Ticked (s .rec) (after c s .rec) (kind E (s .rec .phase)) (kind E (after c s .rec .phase)) (step c s .answer) t → Stepped E c s
+        by d (on e a) = goes-on (test false e) (rw marks-is a) (done d)
+        by d (over e a) = closes (test true e) a (done d)
     go false h = edits (sym (every-here _ _ (sym h))) h (edits-is c s (ready g) h)
 
 sound-edited : {E : ℕ} {s : State} {o : Outcome} → Sound E s → Edited E s (kind E (s .rec .phase)) o → Sound E (o .state)
@@ -82,14 +86,14 @@ sound-edited {E} {s} g e = record {
   rows = rw (e .same .m) (rows-kept (e .lengths) (g .rows));
   fits = e .fits;
   inv = rw (e .same .m, e .same .r) (keep-editor (sizes (g .fits)) (made-there e) (g .inv));
-  bill = rw (e .same .m, e .same .r, e .same .phase, e .same .steps, e .same .blackened)
-      (bill-edit (sizes (g .fits)) (made-there e) (g .inv) {ph = s .rec .phase} refl (g .bill));
+  bill = rw (e .same .m, e .same .r, e .same .phase, ap (λ (n : Count). n .since) (e .same .counts), ap (λ (n : Count). n .blackened) (e .same .counts))
+      (bill-edit (sizes (g .fits)) (made-there e) (g .inv) refl (g .bill));
 }
 
 pub sound-step : {E : ℕ} (c : Step) (s : State) → Sound E s → Sound E (after c s)
 sound-step {E} c s g = go (stepped c s g)
   where
     go : Stepped E c s → Sound E (after c s)
-    go (goes-on e a b x k) = k .sound
-    go (closes e a b k) = k .sound
+    go (goes-on e a k) = k .sound
+    go (closes e a k) = k .sound
     go (edits e h k) = sound-edited g k

@@ -1,7 +1,7 @@
 -- The collector is a machine whose steps are the theory's: so its counts are those of the run, a cycle takes at most B collector steps,
 -- and garbage is appended within 3 × B.
 use Prim.Native.Nat.{ℕ, suc, _+_, _*_, _≤_, _<_}
-use mathlib.Core.Path.{_≡_, refl, ap, _∙_, subst, subst₂}
+use mathlib.Core.Path.{_≡_, refl, sym, ap, _∙_, subst, subst₂}
 use mathlib.Core.List.{List, [], _∷_}
 use native.Mathlib.Omega.{arith}
 use Rattle.rules.specs.Table.{State, edge}
@@ -13,23 +13,22 @@ use Rattle.rules.specs.declared.Answer.the-variants.{Started, Named, Linked, Ta
 use Rattle.theory.specs.Reach.{Garbage}
 use Rattle.theory.proofs.Steps.{appends, other, Tick, CStep, EStep}
 use Rattle.theory.proofs.Invariant.{Sizes, Inv}
-use Rattle.runs.specs.Runs.{Some, now, later, after, collectorSteps, completes, Completes, Appends, Count, counted, count}
+use Rattle.runs.specs.Runs.{Some, now, later, after, collectorSteps, Completes, Appends, Count, counted, told, count}
 use Rattle.runs.proofs.Sound.{abs, Sound, sizes, cycle-goes}
-use Rattle.runs.proofs.Made.{act}
+use Rattle.runs.proofs.Made.{act, counts}
 use Rattle.runs.proofs.Edited.{made-there}
 use Rattle.runs.proofs.AnyStep as A
 use A.{Collected, stepped, sound-step}
 use Rattle.runs.proofs.Machine as M
-use M.{Machine, Stepped, goes-on, closes, edits, Runs, carried-step, ends-soon, appended-soon}
+use M.{Machine, Stepped, goes-on, closes, edits, Runs, counted-on, counted-over, counted-not, carried-step, ends-soon, appended-soon}
 
 abbrev machine : ℕ → Machine State
 machine E = record {
   after = after;
-  completes = completes;
+  told = told;
   act = λ c s. act (step c s .answer);
   abs = abs E;
-  steps = λ s. s .rec .steps;
-  took = λ s. s .rec .took;
+  counts = λ s. counts (s .rec);
 }
 
 other≢appends : {x : ℕ} → other ≡ appends x → ⊥
@@ -63,8 +62,7 @@ pub record Carried (E m r : ℕ) (n : Count) (s : State) : Type 0 where
   pub sound : Sound E s
   pub nodes : s .rec .m ≡ m
   pub slots : s .rec .r ≡ r
-  pub steps : s .rec .steps ≡ n .since
-  pub took : s .rec .took ≡ n .took
+  pub counts : counts (s .rec) ≡ n
 
 module _ {E m r : ℕ} where
   turn : (c : Step) (s : State) → Held E m r s → Stepped (machine E) E m (suc (suc r)) c s
@@ -74,17 +72,24 @@ module _ {E m r : ℕ} where
       there {t} k = subst₂ (λ m r. CStep E m (suc (suc r)) (abs E s) (abs E (after c s)) (act (step c s .answer)) t) (v .nodes) (v .slots) (k .made)
 
       go : A.Stepped E c s → Stepped (machine E) E m (suc (suc r)) c s
-      go (A.goes-on e a b x k) = goes-on (k .kind) e (there k) a b
-      go (A.closes e a b k) = closes (k .kind) e (there k) a b
-      go (A.edits e h k) =
-          edits h e (subst (λ r. EStep E (suc (suc r)) (k .deed) (abs E s) (abs E (after c s))) (v .slots) (made-there k)) (k .same .steps) (k .same .took)
+      go (A.goes-on e a k) = goes-on (k .kind) e (there k)
+      go (A.closes e a k) = closes (k .kind) e (there k)
+      go (A.edits e h k) = edits h e (subst (λ r. EStep E (suc (suc r)) (k .deed) (abs E s) (abs E (after c s))) (v .slots) (made-there k))
+
+  tally : (c : Step) (s : State) → Held E m r s → counts (after c s .rec) ≡ counted (told c s) c (counts (s .rec))
+  tally c s v = go (stepped c s (v .sound))
+    where
+      go : A.Stepped E c s → counts (after c s .rec) ≡ counted (told c s) c (counts (s .rec))
+      go (A.goes-on e a k) = a ∙ sym (counted-on _ c _ e (k .kind))
+      go (A.closes e a k) = a ∙ sym (counted-over _ c _ e)
+      go (A.edits e h k) = k .same .counts ∙ sym (counted-not _ c _ e h)
 
   held-step : (c : Step) (s : State) → Held E m r s → Held E m r (after c s)
   held-step c s v = record { sound = sound-step c s (v .sound); nodes = go (stepped c s (v .sound)) .0; slots = go (stepped c s (v .sound)) .1 }
     where
       go : A.Stepped E c s → (after c s .rec .m ≡ m) × (after c s .rec .r ≡ r)
-      go (A.goes-on e a b x k) = (k .nodes ∙ v .nodes, k .slots ∙ v .slots)
-      go (A.closes e a b k) = (k .nodes ∙ v .nodes, k .slots ∙ v .slots)
+      go (A.goes-on e a k) = (k .nodes ∙ v .nodes, k .slots ∙ v .slots)
+      go (A.closes e a k) = (k .nodes ∙ v .nodes, k .slots ∙ v .slots)
       go (A.edits e h k) = (k .same .m ∙ v .nodes, k .same .r ∙ v .slots)
 
   runs : {s : State} → Held E m r s → Runs (machine E) E m (suc (suc r)) (bound E m r) (Held E m r)
@@ -94,6 +99,7 @@ module _ {E m r : ℕ} where
     below = λ s v. subst₂ (λ m r. s .rec .steps < bound E m r) (v .nodes) (v .slots) (cycle-goes (v .sound));
     stepped = turn;
     sound = held-step;
+    counts = tally;
   }
 
   held : {n : Count} {s : State} → Carried E m r n s → Held E m r s
@@ -103,12 +109,12 @@ module _ {E m r : ℕ} where
   unfolding run
   carried-run [] s n v = v
   carried-run (c ∷ cs) s n v =
-      let k = carried-step (runs (held v)) c s n (record { sound = held v; steps = v .steps; took = v .took }) in
-      carried-run cs (after c s) (counted (completes c s) c n)
-      (record { sound = k .sound .sound; nodes = k .sound .nodes; slots = k .sound .slots; steps = k .steps; took = k .took })
+      let k = carried-step (runs (held v)) c s n (record { sound = held v; counts = v .counts }) in
+      carried-run cs (after c s) (counted (told c s) c n)
+      (record { sound = k .sound .sound; nodes = k .sound .nodes; slots = k .sound .slots; counts = k .counts })
 
   pub ends-within : {n : Count} {s : State} → Carried E m r n s → (cs : List Step) → bound E m r ≤ n .since + collectorSteps cs → Completes cs s
-  ends-within {s = s} v cs l = ends-soon (runs (held v)) cs s (held v) (omega (arith, v .steps))
+  ends-within {s = s} v cs l = ends-soon (runs (held v)) cs s (held v) (omega (arith, ap (λ (n : Count). n .since) (v .counts)))
 
   pub appended-within : {n : Count} {s : State} → Carried E m r n s → (x : ℕ) → x < m → Garbage E (suc (suc r)) (edge s) x → (cs : List Step)
       → 3 * bound E m r ≤ collectorSteps cs → Appends x cs s
@@ -117,5 +123,4 @@ module _ {E m r : ℕ} where
 -- a sound state stays so, with its M and R, whatever was counted before
 pub carried-from : {E : ℕ} (cs : List Step) (s : State) → Sound E s → (n : Count) × Carried E (s .rec .m) (s .rec .r) n (run cs s)
 carried-from cs s g =
-    let n : Count = record { since = s .rec .steps; took = s .rec .took } in
-    (count cs s n, carried-run cs s n (record { sound = g; nodes = refl; slots = refl; steps = refl; took = refl }))
+    (count cs s (counts (s .rec)), carried-run cs s _ (record { sound = g; nodes = refl; slots = refl; counts = refl }))

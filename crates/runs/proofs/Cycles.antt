@@ -4,14 +4,15 @@ use Prim.Native.Nat.{ℕ, suc, _+_}
 use mathlib.Core.Bool.{true, false, true≢false}
 use mathlib.Core.Path.{_≡_, sym, _∙_, subst₂}
 use mathlib.Core.List.{List, [], _∷_}
+use Rattle.base.specs.Choice.{pick}
 use Rattle.rules.specs.Table.{State}
 use Rattle.rules.specs.Steps.{step, run}
 use Rattle.rules.specs.declared.Step.{Step}
 use Rattle.theory.proofs.Cycle.{note, Rest, last-step, collector, editor}
-use Rattle.runs.specs.Runs.{after, completes, begun}
+use Rattle.runs.specs.Runs.{after, completes, blackens, begun}
 use Rattle.runs.specs.Start.{Start}
 use Rattle.runs.proofs.Sound.{Sound, abs, top}
-use Rattle.runs.proofs.Made.{act, blackens}
+use Rattle.runs.proofs.Made.{act}
 use Rattle.runs.proofs.Edited.{made-there}
 use Rattle.runs.proofs.AnyStep.{Stepped, goes-on, closes, edits, stepped, sound-step}
 use Rattle.runs.proofs.Counting.{carried-run}
@@ -39,7 +40,7 @@ appended (c ∷ cs) s = note (act (step c s .answer)) (appended cs (after c s))
 -- how many nodes they blacken
 abbrev pub blackenings : List Step → State → ℕ
 blackenings [] s = 0
-blackenings (c ∷ cs) s = blackens (step c s .answer) + blackenings cs (after c s)
+blackenings (c ∷ cs) s = pick (blackens (step c s .answer)) 1 0 + blackenings cs (after c s)
 
 -- the rest of a cycle is one of the theory's
 pub rest-of : {E : ℕ} {cs : List Step} {s : State} → ToEnd cs s → Sound E s → Rest E (s .rec .m) (top s) (abs E s) (appended cs s) (abs E (run cs s))
@@ -47,8 +48,8 @@ unfolding run
 rest-of {E} (last {c = c} {s = s} e) g = go (stepped c s g)
   where
     go : Stepped E c s → Rest E (s .rec .m) (top s) (abs E s) (appended (c ∷ []) s) (abs E (after c s))
-    go (goes-on e₁ a b x k) = absurd (true≢false (sym e ∙ e₁))
-    go (closes e₁ a b k) = last-step (k .made)
+    go (goes-on e₁ a k) = absurd (true≢false (sym e ∙ e₁))
+    go (closes e₁ a k) = last-step (k .made)
     go (edits e₁ h k) = absurd (true≢false (sym e ∙ e₁))
 rest-of {E} (more {c = c} {cs = cs} {s = s} e t) g = go (stepped c s g) (rest-of t (sound-step c s g))
   where
@@ -59,6 +60,6 @@ rest-of {E} (more {c = c} {cs = cs} {s = s} e t) g = go (stepped c s g) (rest-of
 
     go : Stepped E c s → Rest E (after c s .rec .m) (top (after c s)) (abs E (after c s)) (appended cs (after c s)) (abs E (run cs (after c s)))
         → Rest E (s .rec .m) (top s) (abs E s) (appended (c ∷ cs) s) (abs E (run cs (after c s)))
-    go (goes-on e₁ a b x k) f = collector (k .made) (kept (k .nodes) (k .slots) f)
-    go (closes e₁ a b k) f = absurd (true≢false (sym e₁ ∙ e))
+    go (goes-on e₁ a k) f = collector (k .made) (kept (k .nodes) (k .slots) f)
+    go (closes e₁ a k) f = absurd (true≢false (sym e₁ ∙ e))
     go (edits e₁ h k) f = rw (k .appends) (editor (made-there k) (kept (k .same .m) (k .same .r) f))

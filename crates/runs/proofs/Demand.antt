@@ -1,29 +1,31 @@
 -- Demand 3: each of its claims, of a sound state, and all of them of every run from a start.
 use Prim.Native.Nat.{ℕ, suc, _<_}
-use mathlib.Core.Bool.{true, true≢false}
+use mathlib.Core.Bool.{true, false, true≢false}
 use mathlib.Core.Path.{_≡_, refl, sym, ap, _∙_, subst}
-use mathlib.Core.Logic.{_≢_}
-use mathlib.Core.Option.{none}
+use mathlib.Core.Logic.{_≢_, _⊎_, inl, inr}
+use mathlib.Core.Option.{none, some}
 use native.Mathlib.Omega.{arith}
-use Rattle.rules.specs.Table.{State, edge, colourOf}
+use Rattle.rules.specs.Table.{State, FREE, left, edge, colourOf}
 use Rattle.rules.specs.Check.{bound}
 use Rattle.rules.specs.Steps.{step, codeOf}
 use Rattle.rules.specs.declared.Step.{Step}
-use Rattle.rules.specs.declared.Phase.{Phase}
-use Rattle.rules.specs.declared.Phase.the-variants.{Roots, Scan, Left, Right, Black, Append}
 use Rattle.rules.specs.declared.Answer.the-variants.{Appended}
 use Rattle.theory.specs.Reach.{Reach, Root, Slot, Garbage}
 use Rattle.theory.proofs.Steps as S
 use S.{Tick}
 use Rattle.theory.proofs.Safe as A
-use A.{untouched}
+use A.{untouched, Edits, of-slot, of-free, of-first, edit-where}
 use Rattle.theory.proofs.Facts as F
-use Rattle.theory.proofs.Invariant.{Free, at-roots}
+use Rattle.theory.proofs.Marking.{none≢some}
+use Rattle.theory.proofs.Invariant.{Inv, Free, at-roots}
 use Rattle.runs.specs.Runs.{after, collector, Count, begun}
 use Rattle.runs.specs.Demand.{RootReaches, SlotReaches, Mild, FreeNodes, Demand, Demand-3}
 use Rattle.runs.proofs.Codes.{mild}
 use Rattle.runs.proofs.Tables.{Rows, reach-from}
-use Rattle.runs.proofs.Sound.{owes, top, InvIn, Sound, sizes, Ready, ready}
+use Rattle.runs.proofs.Phases.{view, is-append}
+use Rattle.runs.proofs.Sound.{owes, stateIn, top, Sound, sizes, Ready, ready}
+use Rattle.runs.proofs.Made.{named}
+use Rattle.runs.proofs.Edited.{made-there, walked, walked-at}
 use Rattle.runs.proofs.AnyStep.{Collected, Stepped, goes-on, closes, edits, stepped}
 use Rattle.runs.proofs.Counting.{Carried, carried-run, ends-within, appended-within}
 use Rattle.runs.proofs.Starts.{starts}
@@ -33,6 +35,9 @@ module _ {E m : ℕ} (s : State) (w : Rows E m (s .edges)) {x : ℕ} where
   pub slot-there : SlotReaches s x → Reach E (Slot (top s)) (edge s) x
   slot-there a = reach-from (λ n h. omega arith) (rw (w .count) at a)
 
+  pub slot-here : Reach E (Slot (top s)) (edge s) x → SlotReaches s x
+  slot-here a = rw (w .count) (reach-from (λ n h. omega arith) a)
+
   pub root-there : RootReaches s x → Reach E (Root (top s)) (edge s) x
   root-there a = reach-from (λ n h. omega arith) (rw (w .count) at a)
 
@@ -40,30 +45,29 @@ module _ {E m : ℕ} (s : State) (w : Rows E m (s .edges)) {x : ℕ} where
   garbage-there h a = h (rw (w .count) (reach-from (λ n h. omega arith) a))
 
 -- up to the appending; while the roots are shaded no node is black
-no-black-to-white : {E : ℕ} (s : State) (ph : Phase) → InvIn E s ph → ((i : ℕ) → ph ≢ Append i) → owes (s .rec .owed) ≡ none
-    → (e x : ℕ) → e < E → colourOf s x ≡ 2 → colourOf s (edge s e x) ≢ 0
-no-black-to-white s (Roots i) v h o e x he b = absurd (at-roots (v .in-phase) .no-black x b)
-no-black-to-white s (Scan i k) v h o e x he b = F.no-black-to-white v F.seeking o x e he b
-no-black-to-white s (Left i) v h o e x he b = F.no-black-to-white v F.working o x e he b
-no-black-to-white s (Right i) v h o e x he b = F.no-black-to-white v F.working o x e he b
-no-black-to-white s (Black i) v h o e x he b = F.no-black-to-white v F.working o x e he b
-no-black-to-white s (Append i) v h o e x he b = absurd (h i refl)
+no-black-to-white : {E : ℕ} (s : State) (ph : S.Phase) → Inv E (s .rec .m) (top s) (stateIn s ph) → ((i : ℕ) → ph ≢ S.Appending i)
+    → owes (s .rec .owed) ≡ none → (e x : ℕ) → e < E → colourOf s x ≡ 2 → colourOf s (edge s e x) ≢ 0
+no-black-to-white s (S.Rooting i) v h o e x he b = absurd (at-roots (v .in-phase) .no-black x b)
+no-black-to-white s S.Seeking v h o e x he b = F.no-black-to-white v F.seeking o x e he b
+no-black-to-white s (S.Working i j) v h o e x he b = F.no-black-to-white v F.working o x e he b
+no-black-to-white s (S.Holding i j n) v h o e x he b = F.no-black-to-white v F.holding o x e he b
+no-black-to-white s (S.Appending i) v h o e x he b = absurd (h i refl)
 
 module _ {E : ℕ} {s : State} (g : Sound E s) where
   accepts : (c : Step) → collector c ≡ true → codeOf (step c s .answer) ≡ 0
   accepts c h = go (stepped c s g)
     where
       go : Stepped E c s → codeOf (step c s .answer) ≡ 0
-      go (goes-on e a b x k) = k .code
-      go (closes e a b k) = k .code
+      go (goes-on e a k) = k .code
+      go (closes e a k) = k .code
       go (edits e q k) = absurd (true≢false (sym h ∙ q))
 
   answers : (c : Step) → Mild (codeOf (step c s .answer))
   answers c = go (stepped c s g)
     where
       go : Stepped E c s → Mild (codeOf (step c s .answer))
-      go (goes-on e a b x k) = rw (k .code) (mild refl)
-      go (closes e a b k) = rw (k .code) (mild refl)
+      go (goes-on e a k) = rw (k .code) (mild refl)
+      go (closes e a k) = rw (k .code) (mild refl)
       go (edits e q k) = k .code
 
   leaves : (c : Step) → collector c ≡ true → (side x : ℕ) → SlotReaches s x → edge (after c s) side x ≡ edge s side x
@@ -73,8 +77,8 @@ module _ {E : ℕ} {s : State} (g : Sound E s) where
       by k = untouched (sizes (g .fits)) (k .made) (g .inv) x side (slot-there s (g .rows) a)
 
       go : Stepped E c s → edge (after c s) side x ≡ edge s side x
-      go (goes-on e y z w k) = by k
-      go (closes e y z k) = by k
+      go (goes-on e y k) = by k
+      go (closes e y k) = by k
       go (edits e q k) = absurd (true≢false (sym h ∙ q))
 
   appends-garbage : (c : Step) (x : ℕ) → step c s .answer ≡ Appended x → ¬ RootReaches s x
@@ -84,11 +88,38 @@ module _ {E : ℕ} {s : State} (g : Sound E s) where
       by k = A.appends-garbage (rw q at (k .made)) (g .inv) (root-there s (g .rows) a)
 
       go : Stepped E c s → ⊥
-      go (goes-on e y z w k) = by k
-      go (closes e y z k) = by k
+      go (goes-on e y k) = by k
+      go (closes e y k) = by k
       go (edits e h k) =
           let w = rw q at (k .appends) in
           absurd (let z : _≡_ {A = ℕ} 0 1 = cc in omega arith)
+
+  names : (c : Step) (x : ℕ) → named (step c s .answer) ≡ some x → SlotReaches s x
+  names c x q = go (stepped c s g)
+    where
+      by : {tk : Tick} → Collected E c s tk → SlotReaches s x
+      by k = absurd (none≢some (sym (k .named) ∙ q))
+
+      go : Stepped E c s → SlotReaches s x
+      go (goes-on e y k) = by k
+      go (closes e y k) = by k
+      go (edits e h k) = slot-here s (g .rows) (k .named x q)
+
+  changes : (c : Step) → collector c ≡ false → (side x : ℕ) → edge (after c s) side x ≢ edge s side x
+      → SlotReaches s x ⊎ ((side ≡ left) × ((x ≡ FREE) ⊎ (x ≡ edge s left FREE)))
+  changes c h side x ne = go (stepped c s g)
+    where
+      at : (edge (after c s) side x ≡ edge s side x) ⊎ Edits E (top s) (edge s) side x
+          → SlotReaches s x ⊎ ((side ≡ left) × ((x ≡ FREE) ⊎ (x ≡ edge s left FREE)))
+      at (inl q) = absurd (ne q)
+      at (inr (of-slot a)) = inl (slot-here s (g .rows) a)
+      at (inr (of-free a b)) = inr (a, inl b)
+      at (inr (of-first a b)) = inr (a, inr b)
+
+      go : Stepped E c s → SlotReaches s x ⊎ ((side ≡ left) × ((x ≡ FREE) ⊎ (x ≡ edge s left FREE)))
+      go (goes-on e y k) = absurd (true≢false (sym (k .kind) ∙ h))
+      go (closes e y k) = absurd (true≢false (sym (k .kind) ∙ h))
+      go (edits e q k) = at (edit-where (made-there k) (g .inv) side x)
 
 -- the free list, whatever the collector
 module _ {E : ℕ} {s : State} {ph : S.Phase} (g : Ready E s ph) where
@@ -120,14 +151,25 @@ demand {E} {m} {r} {n} {s} v = record {
   spares = λ c x q a. appends-garbage (v .sound) c x q (reach-from (λ n h. omega arith) a);
   garbage = appends-garbage (v .sound);
   ends = λ cs l. ends-within v cs (omega (arith, l));
-  within = omega (arith, v .took, v .sound .fits .took, same-bound);
-  steps = v .steps;
-  took = v .took;
+  within = omega (arith, ap (λ (n : Count). n .took) (v .counts), v .sound .fits .took, same-bound);
+  steps = ap (λ (n : Count). n .since) (v .counts);
+  took = ap (λ (n : Count). n .took) (v .counts);
+  cycles = ap (λ (n : Count). n .cycles) (v .counts);
+  blackened = ap (λ (n : Count). n .blackened) (v .counts);
+  inuse = ap (λ (n : Count). n .marked) (v .counts);
   appended = λ x hx a cs l.
       let u = subst (λ r. Garbage E (suc (suc r)) (edge s) x) (v .slots) (garbage-there s (v .sound .rows) a) in
       appended-within v x hx u cs (omega (arith, l));
   free = free-nodes (ready (v .sound));
-  no-black-to-white = λ h o side x l b. no-black-to-white s (s .rec .phase) (v .sound .inv) h (ap owes o) side x (omega (arith, l, v .sound .rows .count)) b;
+  nil = v .sound .inv .shape .nil;
+  head = v .sound .inv .shape .bare;
+  named = λ p x e q. slot-here s (v .sound .rows) (walked-at (rw q at (walked (ready (v .sound)) p (sym e))));
+  looks = λ c x q. names (v .sound) c x (ap named q);
+  links = λ c x q. names (v .sound) c x (ap named q);
+  edits = changes (v .sound);
+  no-black-to-white = λ h o side x l b.
+      no-black-to-white s _ (v .sound .inv) (λ i q. h i (is-append (view (v .sound .fits .few) (s .rec .phase)) q)) (ap owes o) side x
+      (omega (arith, l, v .sound .rows .count)) b;
 }
   where
     same-bound : bound E (s .rec .m) (s .rec .r) ≡ bound E m r

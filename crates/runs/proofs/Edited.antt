@@ -1,19 +1,19 @@
 -- What is said of an outcome of an editor's step: it is a step of the theory's editor, or changes nothing, and its code is mild.
 -- Codes before the walk, and the walk: from a ready state they refuse mildly, or the place names a node.
-use Prim.Native.Nat.{ℕ, zero, suc, _/_, _%_, _<_}
+use Prim.Native.Nat.{ℕ, zero, suc, _/_, _%_}
+use mathlib.Core.Bool.{true, false}
 use mathlib.Core.Path.{_≡_, refl, sym}
-use mathlib.Core.Option.{none}
+use mathlib.Core.Option.{none, some}
 use mathlib.Core.List.{List, [], _∷_, map}
-use native.Mathlib.Decide.{decLt}
-use lib.ListN.{length, List·getD-eq-default}
+use lib.ListN.{length}
 use native.Mathlib.Omega.{arith}
-use borrow.Author.Tests.{eqb-true}
+use borrow.Author.Tests.{eqb-true, ltb-true}
 use Rattle.base.specs.Choice.{first}
-use Rattle.base.proofs.Tests.{split, Zeros, zeros}
-use Rattle.rules.specs.Table.{State, sides, Outcome, refuse, unless, edgeOf, edge}
+use Rattle.base.proofs.Tests.{each, split, Zeros, zeros}
+use Rattle.rules.specs.Table.{State, sides, Outcome, refuse, unless, edge}
 use Rattle.rules.specs.Records.{withOwed, withLast}
 use Rattle.rules.specs.Check.{check}
-use Rattle.rules.specs.Places.{base, placeCode, start, walkFrom, walk, arrive}
+use Rattle.rules.specs.Places.{base, sidesOk, turnsOk, placeCode, start, walkFrom, walk, arrive}
 use Rattle.rules.specs.Editor.{owedCode}
 use Rattle.rules.specs.Steps.{codeOf}
 use Rattle.rules.specs.declared.Record.{Record}
@@ -24,15 +24,16 @@ use Rattle.rules.specs.declared.Owed.{Owed}
 use Rattle.rules.specs.declared.Owed.the-variants.{Nothing, Node}
 use Rattle.rules.proofs.Walks.{slot-below}
 use Rattle.theory.specs.Reach as R
-use Rattle.theory.proofs.Reaches.{Named}
+use R.{Reach, Slot}
+use Rattle.theory.proofs.Marking.{none≢some}
 use Rattle.theory.proofs.Steps as S
 use S.{other, Deed, nothing, EStep, rest}
+use Rattle.runs.specs.Runs.{kind, blackens}
 use Rattle.runs.specs.Demand.{Mild}
 use Rattle.runs.proofs.Picks.{if-no}
 use Rattle.runs.proofs.Codes.{mild, Milds, mild-first}
-use Rattle.runs.proofs.Bill.{kind}
 use Rattle.runs.proofs.Sound.{owes, stateIn, abs, top, Fits, Ready}
-use Rattle.runs.proofs.Made.{act, blackens}
+use Rattle.runs.proofs.Made.{act, named, counts}
 use Rattle.runs.proofs.WorkStep.{good-edge}
 
 -- an editor's step leaves the collector's part of the record
@@ -40,29 +41,32 @@ pub record Same (x y : Record) : Type 0 where
   pub m : y .m ≡ x .m
   pub r : y .r ≡ x .r
   pub phase : y .phase ≡ x .phase
-  pub steps : y .steps ≡ x .steps
-  pub took : y .took ≡ x .took
-  pub blackened : y .blackened ≡ x .blackened
+  pub counts : counts y ≡ counts x
 
 pub record Edited (E : ℕ) (s : State) (ph : S.Phase) (o : Outcome) : Type 0 where
   pub deed : Deed
   pub made : EStep E (top s) deed (stateIn s ph) (stateIn (o .state) ph)
   pub code : Mild (codeOf (o .answer))
+  pub named : (x : ℕ) → named (o .answer) ≡ some x → Reach E (Slot (top s)) (edge s) x
   pub appends : act (o .answer) ≡ other
-  pub blackens : blackens (o .answer) ≡ 0
+  pub blackens : blackens (o .answer) ≡ false
   pub fits : Fits E (o .state)
   pub lengths : map length (o .state .edges) ≡ map length (s .edges)
   pub same : Same (s .rec) (o .state .rec)
 
+pub some-same : {x y : ℕ} → some x ≡ some y → x ≡ y
+some-same q = cc
+
 -- another node owed, and another last
 pub same : (x : Record) (o : Owed) (n : ℕ) → Same x (withLast (withOwed x o) n)
-same x o n = record { m = refl; r = refl; phase = refl; steps = refl; took = refl; blackened = refl }
+same x o n = record { m = refl; r = refl; phase = refl; counts = refl }
 
 pub refused : {E : ℕ} {s : State} {ph : S.Phase} → Fits E s → (code node : ℕ) → Mild code → Edited E s ph (refuse s code node)
 refused {E} {s} f code node h = record {
   deed = nothing;
   made = rest;
   code = h;
+  named = λ x q. absurd (none≢some q);
   appends = refl;
   blackens = refl;
   fits = f;
@@ -83,29 +87,36 @@ unfolding owedCode
 none-owed Nothing e = refl
 none-owed (Node n) e = absurd (omega arith)
 
--- a walk comes to a node that the editor can name
+-- a walk comes to a node that a slot reaches
 pub data Walked (E : ℕ) (s : State) : Walk → Type 0 where
-  at : {n : ℕ} → Named E (top s) (edge s) n → Walked E s (At n)
+  at : {n : ℕ} → Reach E (Slot (top s)) (edge s) n → Walked E s (At n)
+
+pub walked-at : {E : ℕ} {s : State} {n : ℕ} → Walked E s (At n) → Reach E (Slot (top s)) (edge s) n
+walked-at (at a) = a
+
+-- a place that passes its tests turns to sides that the table has
+turns-fit : (E r : ℕ) (p : Place) → 0 ≡ placeCode E r p → true ≡ sidesOk E (p .count) (p .word)
+unfolding placeCode turnsOk
+turns-fit E r p = split (λ (n : ℕ). 0 ≡ n → true ≡ sidesOk E (p .count) (p .word)) _ _ _
+    (λ a. split (λ (n : ℕ). 0 ≡ n → true ≡ sidesOk E (p .count) (p .word)) _ _ _ (λ b e. sym (each (_ ∷ sidesOk E (p .count) (p .word) ∷ _ ∷ []) (sym b) .1 .0)) (λ b e. absurd (omega arith)))
+    (λ a e. absurd (omega arith))
 
 module _ {E : ℕ} {s : State} {ph : S.Phase} (g : Ready E s ph) where
-  walk-on : (k w n : ℕ) → Named E (top s) (edge s) n → Walked E s (walkFrom (base E) (edge s) (s .rec .m) k w n)
-  unfolding walkFrom edgeOf
-  walk-on zero w n a = at a
-  walk-on (suc k) w n a =
+  walk-on : (k w n : ℕ) → true ≡ sidesOk E k w → Reach E (Slot (top s)) (edge s) n → Walked E s (walkFrom (base E) (edge s) (s .rec .m) k w n)
+  unfolding walkFrom sidesOk
+  walk-on zero w n h a = at a
+  walk-on (suc k) w n h a =
       let d = w % base E in
       let fine = good-edge (s .rec .m) (edge s d n) (g .inv .shape .bound d n) (g .inv .shape .not-free d n) in
-      split (Walked E s) _ _ _ (λ z. at (R.start {n = 0} (omega arith)))
-      (λ z. if-no (Walked E s) _ _ _ fine (walk-on k (w / base E) (edge s d n) (turned d (decLt d E))))
-    where
-      -- on a side that the table has not there is NIL
-      turned : (d : ℕ) → Dec (d < E) → Named E (top s) (edge s) (edge s d n)
-      turned d (yes h) = R.along d h refl a
-      turned d (no h) = rw (List·getD-eq-default (s .edges) [] {n = d} (omega (arith, g .rows .count))) (R.start {n = 0} (omega arith))
+      let t = each _ h in
+      split (Walked E s) _ _ _ (λ z. at (rw (eqb-true n 0 z) at a))
+      (λ z. if-no (Walked E s) _ _ _ fine (walk-on k (w / base E) (edge s d n) (sym (t .1 .0)) (R.along d (ltb-true _ _ (t .0)) refl a)))
 
   pub walked : (p : Place) → 0 ≡ placeCode (sides s) (s .rec .r) p → Walked E s (walk s p)
-  walked p e = rw (g .rows .count) (walk-on (p .count) (p .word) (start p) (R.start {n = start p} (omega (arith, slot-below (sides s) (s .rec .r) p e))))
+  walked p e = rw (g .rows .count) (walk-on (p .count) (p .word) (start p) (rw (g .rows .count) at (turns-fit (sides s) (s .rec .r) p e))
+      (R.start {n = start p} (omega (arith, slot-below (sides s) (s .rec .r) p e))))
 
-  pub arrived : {w : Walk} (go : ℕ → Outcome) → Walked E s w → ((n : ℕ) → Named E (top s) (edge s) n → Edited E s ph (go n)) → Edited E s ph (arrive s w go)
+  pub arrived : {w : Walk} (go : ℕ → Outcome) → Walked E s w → ((n : ℕ) → Reach E (Slot (top s)) (edge s) n → Edited E s ph (go n)) → Edited E s ph (arrive s w go)
   unfolding arrive
   arrived go (at {n = n} a) k = k n a
 

@@ -1,6 +1,6 @@
 -- From a ready state Look and Link each do a step of the theory's editor, or are refused mildly and change nothing.
 use Prim.Native.Nat.{ℕ, _<_}
-use mathlib.Core.Path.{_≡_, refl}
+use mathlib.Core.Path.{_≡_, refl, subst}
 use mathlib.Core.Logic.{_≢_}
 use mathlib.Core.Option.{none}
 use native.Mathlib.Omega.{arith}
@@ -12,14 +12,15 @@ use Rattle.rules.specs.Places.{placeCode}
 use Rattle.rules.specs.declared.Place.{Place}
 use Rattle.rules.specs.declared.Owed.the-variants.{Node}
 use Rattle.rules.proofs.Walks.{side-below}
-use Rattle.theory.proofs.Reaches.{Named, named-reached}
+use Rattle.theory.specs.Reach.{Reach, Slot}
+use Rattle.theory.proofs.Reaches.{Named, named-reached, slot-named}
 use Rattle.theory.proofs.Steps as S
 use S.{nothing, links, rest}
 use Rattle.theory.proofs.Shapes.{reached-inside}
 use Rattle.runs.proofs.Codes.{mild, mild-place, mild-side, mild-owed}
 use Rattle.runs.proofs.Tables.{EdgeMoved, edge-moved}
 use Rattle.runs.proofs.Sound.{owes, top, Ready, sizes}
-use Rattle.runs.proofs.Edited.{Edited, same, refused, unless-edited, none-owed, walked, arrived}
+use Rattle.runs.proofs.Edited.{some-same, Edited, same, refused, unless-edited, none-owed, walked, arrived}
 
 module _ {E : ℕ} {s : State} {ph : S.Phase} (g : Ready E s ph) where
   pub look-edited : (p : Place) → Edited E s ph (look p s)
@@ -28,6 +29,7 @@ module _ {E : ℕ} {s : State} {ph : S.Phase} (g : Ready E s ph) where
     deed = nothing;
     made = rest;
     code = mild refl;
+    named = λ x q. subst (Reach E (Slot (top s)) (edge s)) (some-same q) a;
     appends = refl;
     blackens = refl;
     fits = g .fits;
@@ -47,15 +49,16 @@ module _ {E : ℕ} {s : State} {ph : S.Phase} (g : Ready E s ph) where
   pub departed : (p : Place) (go : ℕ → Outcome) → 0 ≡ placeCode (sides s) (s .rec .r) p → ((n : ℕ) → Named E (top s) (edge s) n → n ≢ 0 → Edited E s ph (go n))
       → Edited E s ph (depart s p go)
   unfolding depart
-  departed p go z k = arrived g _ (walked g p z) (λ n a. split (Edited E s ph) _ _ _ (λ e. refused (g .fits) 8 0 (mild refl)) (λ e. k n a (eqb-false n 0 e)))
+  departed p go z k = arrived g _ (walked g p z) (λ n a. split (Edited E s ph) _ _ _ (λ e. refused (g .fits) 8 0 (mild refl)) (λ e. k n (slot-named a) (eqb-false n 0 e)))
 
   linked : (side n : ℕ) (q : Place) → side < E → 0 ≡ placeCode (sides s) (s .rec .r) q → owes (s .rec .owed) ≡ none → Named E (top s) (edge s) n → n ≢ 0
       → Edited E s ph (linkTo s side q n)
   unfolding linkTo
   linked side n q h z o a n0 = arrived g _ (walked g q z) (λ t b. let em = moves side n t h a in record {
     deed = links side n t;
-    made = rw (o, em .colour) (S.link record { side = h; source = a; present = n0; target = b; moved = em .moved });
+    made = rw (o, em .colour) (S.link record { side = h; source = a; present = n0; target = slot-named b; moved = em .moved });
     code = mild refl;
+    named = λ x q. subst (Reach E (Slot (top s)) (edge s)) (some-same q) b;
     appends = refl;
     blackens = refl;
     fits = rw (em .colour) (omega (arith, g .fits));

@@ -21,9 +21,11 @@ use Rattle.theory.proofs.Update.{Colours}
 use Rattle.theory.proofs.Steps as S
 use Rattle.theory.proofs.Invariant.{Sizes, InPhase, Inv, at-roots, at-work, at-append}
 use Rattle.theory.proofs.Facts.{owed-lies, last-lies}
+use Rattle.runs.specs.Runs.{kind}
 use Rattle.runs.specs.Start.{Served}
 use Rattle.runs.proofs.Tables.{Rows}
-use Rattle.runs.proofs.Bill.{kind, Bill, of-roots, of-scan, of-left, of-right, of-black, of-append, below-bound, blackened-le}
+use Rattle.runs.proofs.Phases.{View, rooting, seeking, shading, blackening, appending, view}
+use Rattle.runs.proofs.Bill.{Bill, of-scan, below-bound, blackened-le}
 
 -- the node owed, if any
 abbrev pub owes : Owed → Option ℕ
@@ -51,7 +53,7 @@ abbrev pub InvIn : ℕ → State → Phase → Type 0
 InvIn E s ph = Inv E (s .rec .m) (top s) (stateAt E s ph)
 
 abbrev pub BillIn : ℕ → State → Phase → Type 0
-BillIn E s ph = Bill E (s .rec .m) (s .rec .r) (colourOf s) (s .rec .steps) (s .rec .blackened) ph
+BillIn E s ph = Bill E (s .rec .m) (s .rec .r) (colourOf s) (s .rec .steps) (s .rec .blackened) ph (kind E ph)
 
 pub record Fits (E : ℕ) (s : State) : Type 0 where
   pub few : Served E
@@ -74,7 +76,7 @@ pub sizes : {E : ℕ} {s : State} → Fits E s → Sizes E (s .rec .m) (top s)
 sizes f = record { edges = omega (arith, f .few); fixed = omega arith; room = omega (arith, f .room) }
 
 pub cycle-goes : {E : ℕ} {s : State} → Sound E s → s .rec .steps < bound E (s .rec .m) (s .rec .r)
-cycle-goes {s} g = below-bound {ph = s .rec .phase} (g .inv .in-phase) (g .bill)
+cycle-goes g = below-bound (g .inv .in-phase) (g .bill)
 
 -- E lengths of m are m each
 all-equal : (E m : ℕ) (bs : List Bool) → true ≡ every bs → true ≡ every (map (λ n. eqb n m) (replicate E m) ++ bs)
@@ -87,15 +89,14 @@ size-ok {E} {s} f =
     let rest = all-equal E (s .rec .m) _ (every-last _ _ (eq-yes _ _ (f .colours))) in
     search (tests, f .m-low, f .m-high, f .r-low, f .r-high, f .room, rest) depth 12
 
-phase-ok : {E m r : ℕ} {s : Graph} {c : Colours} {o : Option ℕ} {n b : ℕ} {ph : Phase} → InPhase E m (suc (suc r)) s c o (kind E ph) → Bill E m r c n b ph
-    → true ≡ phaseOk m r ph
+phase-ok : {E m r : ℕ} {s : Graph} {c : Colours} {o : Option ℕ} {n b : ℕ} {ph : Phase} → View E ph → InPhase E m (suc (suc r)) s c o (kind E ph)
+    → Bill E m r c n b ph (kind E ph) → true ≡ phaseOk m r ph
 unfolding phaseOk
-phase-ok {r = r} v (of-roots {i = i} q z) = le-yes i (r + 1) (omega (arith, at-roots v .pos))
-phase-ok v (of-scan w) = search (tests, w .pos, w .low, w .high)
-phase-ok v (of-left w) = lt-yes _ _ (at-work v .pos)
-phase-ok v (of-right w) = lt-yes _ _ (at-work v .pos)
-phase-ok v (of-black w) = lt-yes _ _ (at-work v .pos)
-phase-ok v (of-append w) = lt-yes _ _ (at-append v .pos)
+phase-ok {r = r} (rooting i) v b = le-yes i (r + 1) (omega (arith, at-roots v .pos))
+phase-ok (seeking i k) v (of-scan w) = search (tests, w .pos, w .low, w .high)
+phase-ok {m = m} {r} (shading k) v b = rw (k .test m r) (lt-yes _ _ (at-work (rw (k .here) at v) .pos))
+phase-ok (blackening i) v b = lt-yes _ _ (at-work v .pos)
+phase-ok (appending i) v b = lt-yes _ _ (at-append v .pos)
 
 pub owed-ok : {m : ℕ} (o : Owed) → ((x : ℕ) → owes o ≡ some x → (x ≢ 1) × (x < m)) → true ≡ owedOk m o
 unfolding owedOk
@@ -115,7 +116,7 @@ counts-ok g = search (tests, blackened-le (g .bill), g .fits .in-use, cycle-goes
 record-ok : {E : ℕ} {s : State} → Sound E s → true ≡ recordOk E (s .rec)
 unfolding recordOk
 record-ok {s} g =
-    let p = phase-ok {ph = s .rec .phase} (g .inv .in-phase) (g .bill) in
+    let p = phase-ok (view (g .fits .few) (s .rec .phase)) (g .inv .in-phase) (g .bill) in
     let o = owed-ok (s .rec .owed) (λ x q. owed-lies (sizes (g .fits)) (g .inv) q) in
     let l = last-ok (s .rec .last) (last-lies (g .inv)) in
     search (tests, p, o, l, counts-ok g) depth 7

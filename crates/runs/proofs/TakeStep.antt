@@ -20,6 +20,7 @@ use Rattle.rules.specs.declared.Answer.the-variants.{Taken}
 use Rattle.rules.proofs.Walks.{side-below}
 use Rattle.theory.proofs.Update.{Shaded}
 use Rattle.theory.proofs.Reaches.{Named}
+use Rattle.theory.proofs.Marking.{none≢some}
 use Rattle.theory.proofs.Steps as S
 use S.{pays, takes, Takes, shaded, emptied}
 use Rattle.theory.proofs.Facts.{owed-lies, first-lies, next-lies}
@@ -46,6 +47,7 @@ module _ {E : ℕ} {s : State} {ph : S.Phase} (g : Ready E s ph) where
     deed = pays t;
     made = rw q (S.pay (shade-is (s .colour) t (omega (arith, g .fits .colours, owed-lies (sizes (g .fits)) (g .inv) q))));
     code = mild refl;
+    named = λ x q. absurd (none≢some q);
     appends = refl;
     blackens = refl;
     fits = omega (arith, g .fits, length-shade (s .colour) t);
@@ -121,6 +123,7 @@ module _ {E : ℕ} {s : State} {ph : S.Phase} (g : Ready E s ph) where
       deed = takes side n f y;
       made = rw (o, colour₃) (S.take (three f0) shaded-f (emptied y0));
       code = mild refl;
+      named = λ x q. absurd (none≢some q);
       appends = refl;
       blackens = refl;
       fits = rw colour₃ (omega (arith, g .fits, length-shade (s .colour) f));
@@ -134,6 +137,7 @@ module _ {E : ℕ} {s : State} {ph : S.Phase} (g : Ready E s ph) where
       deed = takes side n f y;
       made = rw (o, colour₃) (S.take (three f0) shaded-f (shaded y0 (shade-is (shadeIn (s .colour) f) y y-inside)));
       code = mild refl;
+      named = λ x q. absurd (none≢some q);
       appends = refl;
       blackens = refl;
       fits = rw colour₃ (omega (arith, g .fits, length-shade (s .colour) f, length-shade (shadeIn (s .colour) f) y));

@@ -14,5 +14,6 @@ Served e = e ≡ 2
 -- a table of e edges to a node, for m nodes and r slots, from which calls may be made
 pub data Start (e m r : ℕ) : State → Type 0 where
   -- one that Fresh made, of lists of any contents
-  by-fresh : (edges : List (List ℕ)) (colours : List ℕ) → Served e → length edges ≡ e → codeOf (fresh m r edges colours .answer) ≡ 0
+  by-fresh : (edges : List (List ℕ)) (colours : List ℕ) → Served e → length edges ≡ e
+      → codeOf (fresh m r edges colours .answer) ≡ 0
       → Start e m r (fresh m r edges colours .state)
