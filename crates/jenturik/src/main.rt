@@ -6,6 +6,7 @@
 use transcript::Session;
 ghost use Prim.Native.Nat.{_≤_};
 ghost use lib.ListN.{length};
+ghost use Rattle.rules.specs.Lent.{was, is};
 
 // A block of the input, and an output with room for its answers: a line has at least its newline,
 // an answer at most 22 bytes.
@@ -56,7 +57,7 @@ fn read(input: &mut [u8]) -> isize {
 
 // Writes a part of the bytes: how many were taken, 0 where they cannot be written.
 fn write_some(bytes: &[u8]) -> usize
-    ensures { λ r. ⌜ r ≤ length (now (bytes .entry)) ⌝ }
+    ensures { λ r. ⌜ r ≤ length (was bytes) ⌝ }
 {
     let mut tries = u64::MAX;
     while 0 < tries {
@@ -95,7 +96,8 @@ fn write_used(out: &[u8], s: Session) -> bool {
     write(&out[0..used])
 }
 
-// How the run stands after a block of n bytes, none at the end of the input, whose answers were written or not.
+// How the run stands after a block of n bytes, none at the end of the input, whose answers were
+// written or not.
 fn after(written: bool, s: Session, n: usize) -> Standing {
     if !written {
         return Standing::Unwritten;

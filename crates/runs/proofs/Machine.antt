@@ -76,7 +76,8 @@ module _ (t : Told) (c : Step) (n : Count) where
 module _ {S : Type 0} {w : Machine S} {E M T B : ℕ} {Sound : S → Type 0} (v : Runs w E M T B Sound)
   where
     -- the steps of the cycle after a step
-    since-is : (c : Step) (s : S) → Sound s → {n : Count} → counted (w .told c s) c (w .counts s) ≡ n
+    since-is : (c : Step) (s : S) → Sound s → {n : Count} → counted (w .told c s) c (w .counts s)
+        ≡ n
         → w .counts (w .after c s) .since ≡ n .since
     since-is c s g q = ap (λ (n : Count). n .since) (v .counts c s g ∙ q)
 

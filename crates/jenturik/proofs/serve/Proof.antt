@@ -7,10 +7,14 @@ use Rattle.jenturik.proofs.serve.Statement.{statement}
 use Rattle.jenturik.proofs.serve.Tie as tie
 
 abbrev Inv-loop : tie.InvT-loop
-Inv-loop left₀ right₀ colour₀ line₀ out₀ input₀ s₀ blocks₀ left right colour line out input s blocks = (length left ≡ length left₀) × (length right ≡ length right₀) × (length colour ≡ length colour₀) × (length line ≡ length line₀) × (length out ≡ length out₀) × (length input ≡ length input₀)
+Inv-loop left₀ right₀ colour₀ line₀ out₀ input₀ s₀ blocks₀ left right colour line out input s
+    blocks = (length left ≡ length left₀) × (length right ≡ length right₀) ×
+    (length colour ≡ length colour₀) × (length line ≡ length line₀) × (length out ≡ length out₀) ×
+    (length input ≡ length input₀)
 
 abbrev μ-loop : tie.MeasureT-loop
-μ-loop left₀ right₀ colour₀ line₀ out₀ input₀ s₀ blocks₀ left right colour line out input s blocks = blocks
+μ-loop left₀ right₀ colour₀ line₀ out₀ input₀ s₀ blocks₀ left right colour line out input s blocks =
+    blocks
 
 start-requires : tie.Need-start-requires Inv-loop μ-loop
 start-requires c κs = search needs

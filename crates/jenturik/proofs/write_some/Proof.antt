@@ -1,4 +1,5 @@
--- `write_some` meets its contract, which is that of the count, and ends: a call is made again so often at most.
+-- `write_some` meets its contract, which is that of the count, and ends: a call is made again so
+-- often at most.
 use borrow.Author.Needs.{needs}
 use Rattle.jenturik.proofs.write_some.Statement.{statement}
 use Rattle.jenturik.proofs.write_some.Tie as tie
