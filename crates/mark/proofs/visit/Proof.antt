@@ -29,8 +29,7 @@ mul-spread-2 c = let g =
 shared-slice-read-spread-2 : tie.Need-shared-slice-read-spread-2
 shared-slice-read-spread-2 c =
     let at-entry = c .before .before .before .before .before .before in
-    let g =
-    at _ _ _ _ _ (at-entry .pre .0 .passes) in
+    let g = at _ _ _ _ _ (at-entry .pre .0 .passes) in
     let o = one _ _ _ _ _ _ (at-entry .pre .0) (at-entry .pre .1 .1) in
     omega (arith, at-entry .pre .0 .most)
 
@@ -49,8 +48,7 @@ spread-requires c κs =
 add-around : tie.Need-add-around
 add-around c =
     let at-entry = c .before .before .before .before .before .before .before .before .before in
-    let g =
-    at _ _ _ _ _ (at-entry .pre .0 .passes) in
+    let g = at _ _ _ _ _ (at-entry .pre .0 .passes) in
     let o = one _ _ _ _ _ _ (at-entry .pre .0) (at-entry .pre .1 .1) in
     omega (arith, at-entry .pre .0 .most)
 
@@ -61,8 +59,7 @@ around-requires : tie.Need-around-requires
 around-requires c κs =
     let at-entry = c .before .before .before .before .before .before .before .before .before .before
     in
-    let g =
-    at _ _ _ _ _ (at-entry .pre .0 .passes) in
+    let g = at _ _ _ _ _ (at-entry .pre .0 .passes) in
     let o = one _ _ _ _ _ _ (at-entry .pre .0) (at-entry .pre .1 .1) in
     omega (arith, at-entry .pre .0 .most)
 
@@ -73,8 +70,7 @@ add-t19 : tie.Need-add-t19
 add-t19 c =
     let at-entry = c .before .before .before .before .before .before .before .before .before .before
     .before .before .before in
-    let g =
-    at _ _ _ _ _ (at-entry .pre .0 .passes) in
+    let g = at _ _ _ _ _ (at-entry .pre .0 .passes) in
     let o = one _ _ _ _ _ _ (at-entry .pre .0) (at-entry .pre .1 .1) in
     omega (arith, at-entry .pre .0 .most)
 
@@ -82,26 +78,23 @@ add-t20 : tie.Need-add-t20
 add-t20 c =
     let at-entry = c .before .before .before .before .before .before .before .before .before .before
     .before .before .before .before in
-    let g =
-    at _ _ _ _ _ (at-entry .pre .0 .passes) in
+    let g = at _ _ _ _ _ (at-entry .pre .0 .passes) in
     let o = one _ _ _ _ _ _ (at-entry .pre .0) (at-entry .pre .1 .1) in
     omega (arith, at-entry .pre .0 .most)
 
 add-t21 : tie.Need-add-t21
 add-t21 c =
-    let at-entry = c .before .before .before .before .before .before .before .before .before .before
-    .before .before .before .before .before .before in
-    let g =
-    at _ _ _ _ _ (at-entry .pre .0 .passes) in
+    let at-spread = c .before .before .before .before .before .before .before .before .before in
+    let at-entry = at-spread .before .before .before .before .before .before .before in
+    let g = at _ _ _ _ _ (at-entry .pre .0 .passes) in
     let o = one _ _ _ _ _ _ (at-entry .pre .0) (at-entry .pre .1 .1) in
-    omega (arith, at-entry .pre .0 .most)
+    omega (arith, at-entry .pre .0 .most, at-spread .spread .ensures .0)
 
 sub-t22 : tie.Need-sub-t22
 sub-t22 c =
-    let at-entry = c .before .before .before .before .before .before .before .before .before .before
-    .before .before .before .before .before .before in
-    let g =
-    at _ _ _ _ _ (at-entry .pre .0 .passes) in
+    let at-spread = c .before .before .before .before .before .before .before .before .before in
+    let at-entry = at-spread .before .before .before .before .before .before .before in
+    let g = at _ _ _ _ _ (at-entry .pre .0 .passes) in
     let o = one _ _ _ _ _ _ (at-entry .pre .0) (at-entry .pre .1 .1) in
     omega (arith, at-entry .pre .0 .most)
 
@@ -112,8 +105,7 @@ returns : tie.Need-returns
 returns c =
     let at-spread = c .before .before .before .before .before .before .before .before .before in
     let at-entry = at-spread .before .before .before .before .before .before .before in
-    let g =
-    at _ _ _ _ _ (at-entry .pre .0 .passes) in
+    let g = at _ _ _ _ _ (at-entry .pre .0 .passes) in
     visits _ _ _ _ _ _ (at-entry .pre .0) (at-entry .pre .1 .1) (at-entry .pre .1 .0) _ _ _
     (at-spread .spread .ensures .1 .1 .0) (omega arith)
     (at-spread .spread .ensures .1 .1 .1) (at-spread .spread .ensures .0)
