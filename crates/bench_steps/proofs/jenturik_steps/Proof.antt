@@ -34,8 +34,7 @@ same-length-3 c = search needs
 
 returns-2 : tie.Need-returns-2
 returns-2 c =
-    let at-before = c .before .before .before .before .before .before .before in
-    let at-call = at-before .before in
+    let at-call = c .before .before .before .before .before .before .before .before in
     let at-if = at-call .before .before .before .before .before in
     faces _ _ _ _ _ (not-no _ (at-if .if1 .left) ∙ at-if .before .is-record .ensures) _
     (at-call .before .record-of .ensures) _ _ _ _ _ (at-call .one-by-one .ensures)

@@ -42,8 +42,7 @@ same-length-3 c = omega arith
 
 returns : tie.Need-returns Inv-loop μ-loop
 returns c =
-    let at-before = c .before .before .before .before .before .before .before .before in
-    let at-call = at-before .before in
+    let at-call = c .before .before .before .before .before .before .before .before .before in
     let at-test = at-call .before .before .before .before in
     refused _ _ _ _ _ (at-call .collect .ensures) (at-test .loop-test .taken)
     (c .before .code .ensures) (c .if1 .taken)
@@ -51,9 +50,8 @@ returns c =
 
 add-done : tie.Need-add-done Inv-loop μ-loop
 add-done c =
-    let at-before = c .before .before .before .before .before .before .before .before .before
+    let at-entry = c .before .before .before .before .before .before .before .before .before .before
     .before .before .before .before .before .before .before .before in
-    let at-entry = at-before .before in
     omega (arith, at-entry .good .1 .1 .1 .1 .0 .1)
 
 loop-less : tie.Need-loop-less Inv-loop μ-loop
@@ -61,8 +59,7 @@ loop-less c = omega arith
 
 loop-again : tie.Need-loop-again Inv-loop μ-loop
 loop-again c =
-    let at-before = c .before .before .before .before .before .before .before .before in
-    let at-call = at-before .before in
+    let at-call = c .before .before .before .before .before .before .before .before .before in
     let at-test = at-call .before .before .before .before in
     let goes-on = done _ _ _ _ _ (at-call .collect .ensures) (at-test .loop-test .taken)
     (c .before .code .ensures) (c .if1 .left) in

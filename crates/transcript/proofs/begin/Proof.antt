@@ -38,9 +38,8 @@ same-length-4 c = search needs
 
 returns : tie.Need-returns
 returns c =
-    let at-before = c .before .before .before .before .before .before .before .before .before
+    let at-first = c .before .before .before .before .before .before .before .before .before .before
     .before .before .before in
-    let at-first = at-before .before in
     let at-least = at-first .before .before .before .before .before in
     begun-over _ _ _ _ _ _ _ _ _ _ _ _ _ _ _ _
     (rw (sub-zero, at-least .least .ensures, front) at (at-first .first .ensures))
@@ -64,8 +63,8 @@ same-length-8 c = search needs
 returns-2 : tie.Need-returns-2
 returns-2 c =
     let at-say = c .before .before .before .before .before .before in
-    let at-before = at-say .before .before .before .before .before .before .before in
-    let at-first = at-before .before in
+    let at-first = c .before .before .before .before .before .before .before .before .before .before
+    .before .before .before .before in
     let at-least = at-first .before .before .before .before .before in
     begun-serving _ _ _ _ _ _ _ _ _ _ _ _ _ _ _ _
     (rw (sub-zero, at-least .least .ensures, front) at (at-first .first .ensures))

@@ -40,8 +40,8 @@ same-length-5 c = search needs
 
 returns : tie.Need-returns
 returns c =
-    let at-before = c .before .before .before .before .before .before .before .before .before in
-    let at-opening = at-before .before in
+    let at-opening = c .before .before .before .before .before .before .before .before .before
+    .before in
     let at-emptied = at-opening .before .before .before .before .before .before .before .before
     .before in
     blocks _ _ _ _ (at-emptied .emptied .ensures _ _ _ _ _)
@@ -66,9 +66,8 @@ same-length-10 c = search needs
 
 returns-2 : tie.Need-returns-2
 returns-2 c =
-    let at-before = c .before .before .before .before .before .before .before .before .before in
-    let at-serve = at-before .before in
-    let at-emptied = at-serve .before .before .before .before .before .before .before .before
+    let at-serve = c .before .before .before .before .before .before .before .before .before .before
+    in let at-emptied = at-serve .before .before .before .before .before .before .before .before
     .before .before in
     blocks _ _ _ _ (at-emptied .emptied .ensures _ _ _ _ _)
     (staged _ _ _ _ _ _ _ _ _

@@ -29,19 +29,15 @@ next-line-requires c κs = omega arith
 
 loop-less : tie.Need-loop-less Inv-loop μ-loop
 loop-less c =
-    let at-before = c .before .before .before .before .before .before .before .before .before
-    .before in
-    let at-line = at-before .before in
-    let at-test = at-line .before .before .before .before .before .before in
+    let at-line = c .before .before .before .before .before .before .before .before .before .before
+    .before in let at-test = at-line .before .before .before .before .before .before in
     let h = line-gains _ _ _ _ (at-line .next-line .ensures) (at-test .loop-test .taken) in
     omega arith
 
 loop-again : tie.Need-loop-again Inv-loop μ-loop
 loop-again c =
-    let at-before = c .before .before .before .before .before .before .before .before .before
-    .before in
-    let at-line = at-before .before in
-    let at-loop = at-line .before .before .before .before .before .before .before in (
+    let at-line = c .before .before .before .before .before .before .before .before .before .before
+    .before in let at-loop = at-line .before .before .before .before .before .before .before in (
       omega arith,
       omega arith,
       omega arith,

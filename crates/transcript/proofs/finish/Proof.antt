@@ -43,9 +43,8 @@ same-length-5 c = search needs
 returns-2 : tie.Need-returns-2
 unfolding finish
 returns-2 c =
-    let at-before = c .before .before .before .before .before .before .before .before .before in
-    let at-block = at-before .before in
-    let at-test = at-block .before .before .before .before .before .before .before in
+    let at-block = c .before .before .before .before .before .before .before .before .before .before
+    in let at-test = at-block .before .before .before .before .before .before .before in
     pick-no _ _ _ _ (sym (at-test .if1 .left) ∙ at-test .before .bare .ensures)
     (at-block .block .ensures)
 

@@ -39,9 +39,8 @@ same-length-5 c = search needs
 
 returns-2 : tie.Need-returns-2
 returns-2 c =
-    let at-before = c .before .before .before .before .before .before .before .before .before in
-    let at-serve = at-before .before in
-    staged _ _ _ _ _ _ _ _ _
+    let at-serve = c .before .before .before .before .before .before .before .before .before .before
+    in staged _ _ _ _ _ _ _ _ _
     (at-serve .before .before .before .before .before .before .before .stage .given .1)
     (at-serve .serve .ensures)
 

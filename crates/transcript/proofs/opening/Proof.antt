@@ -61,9 +61,8 @@ same-length-5 c = search needs
 
 returns : tie.Need-returns
 returns c =
-    let at-before = c .before .before .before .before .before .before .before .before .before in
-    let at-go-on = at-before .before in
-    let at-begin = at-go-on .before .before .before .before .before .before .before .before
+    let at-go-on = c .before .before .before .before .before .before .before .before .before .before
+    in let at-begin = at-go-on .before .before .before .before .before .before .before .before
     .before .before .before .before .before .before in
     let at-put = at-begin .before .before .before .before .before .before .before .before
     .before .before in

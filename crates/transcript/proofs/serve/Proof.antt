@@ -63,9 +63,8 @@ same-length-5 c = search needs
 
 returns : tie.Need-returns
 returns c =
-    let at-before = c .before .before .before .before .before .before .before .before .before in
-    let at-feed = at-before .before in
-    let at-least = at-feed .before .before .before .before .before .before in
+    let at-feed = c .before .before .before .before .before .before .before .before .before .before
+    in let at-least = at-feed .before .before .before .before .before .before in
     let at-entry = at-least .before .before .before .before .before .before .before .before
     .before in
     served _ _ _ _ _ _ _ _ _ _ _ _ _ _ _ _ _

@@ -29,8 +29,8 @@ same-length-5 c = search needs
 returns : tie.Need-returns
 unfolding turn
 returns c =
-    let at-before = c .before .before .before .before .before .before .before .before .before in
-    let at-finish = at-before .before in
+    let at-finish = c .before .before .before .before .before .before .before .before .before
+    .before in
     pick-yes _ _ _ _
     (eq-yes _ _ (at-finish .before .before .before .before .before .before .if1 .taken))
     (at-finish .finish .ensures)
@@ -68,9 +68,8 @@ same-length-10 c = search needs
 returns-2 : tie.Need-returns-2
 unfolding turn
 returns-2 c =
-    let at-before = c .before .before .before .before .before .before .before .before .before in
-    let at-block = at-before .before in
-    let at-least = at-block .before .before .before .before .before .before .before in
+    let at-block = c .before .before .before .before .before .before .before .before .before .before
+    in let at-least = at-block .before .before .before .before .before .before .before in
     pick-no _ _ _ _ (eq-no _ _ (at-least .before .if1 .left))
     (rw (sub-zero, at-least .least .ensures, front) at (at-block .block .ensures))
 
