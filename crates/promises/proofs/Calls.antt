@@ -30,4 +30,4 @@ goes (CollectMany n) h = λ u. ap (lend (λ x. x)) (schedule-run (collects n) (s
 
 pub rattle-calls : Demand-calls rattle
 rattle-calls =
-    R.demand-calls rattle Fit (λ x. x) (record { back = λ x. refl; fit = λ v. tt; goes = goes })
+    R.demand-calls rattle Fit (λ x. x) (record { back = λ x. refl; fit = λ v u. tt; goes = goes })

@@ -9,6 +9,7 @@ use lib.ListN.{take}
 use Rattle.base.proofs.Tests.{pick-yes}
 use Rattle.rules.specs.Table.{State}
 use Rattle.rules.specs.Records.{position}
+use Rattle.rules.specs.Check.{bound}
 use Rattle.rules.specs.Steps.{run, taking, linking, shading, collecting, looking}
 use Rattle.rules.specs.Schedules.{Followed, schedule, collects}
 use Rattle.rules.specs.Facts.{Inside, Owable}
@@ -18,9 +19,10 @@ use Rattle.rules.specs.declared.Phase.the-variants.{Roots, Scan, Left, Right, B
 use Rattle.rules.specs.declared.Owed.{Owed}
 use Rattle.rules.specs.declared.Owed.the-variants.{Nothing, Node}
 use Rattle.rules.proofs.Good.{good, inside, owable}
+use Rattle.rules.proofs.Sizes.{square}
 use Rattle.words.specs.Words.{kOf, owedOf, wordsOf, isRecord}
 use Rattle.words.proofs.RoundTrip.{record-back}
-use Rattle.words.proofs.Widths.{words-are}
+use Rattle.words.proofs.Widths.{words-are, tag-most, owes-most}
 use Rattle.jenturik_c.specs.Face.{face}
 use Rattle.jenturik_c.specs.Flat.{stepsOf, scheduleOf}
 use Rattle.jenturik_c.proofs.Kept.{Follows, schedule-follows, words-follow, done-kept}
@@ -48,20 +50,26 @@ owed-fits : (m : ℕ) (o : Owed) → m ≤ 4096 → Owable m o → owedOf o ≤ 
 owed-fits m Nothing a h = omega arith
 owed-fits m (Node n) a h = omega arith
 
+took-fits : (m r : ℕ) → m ≤ 4096 → r ≤ 64 → bound 2 m r ≤ 4294967295
+unfolding bound
+took-fits m r a b = omega (arith, square m a)
+
 -- the words are a record's
 abbrev Fit : List ℕ → Type 0
 Fit w = true ≡ isRecord w
 
-fits : {m r : ℕ} {n : Count} {s : State} → Carried 2 m r n s → Fit (wordsOf (s .rec))
-fits {m} {r} {n} {s} v =
+fits : {m r : ℕ} {n : Count} {s : State} → Carried 2 m r n s → R.Cycled n → Fit (wordsOf (s .rec))
+fits {m} {r} {n} {s} v c =
     let x = s .rec in
     let k = checked (subst (λ (t : State). Carried 2 m r n t) (sym (R.lent-back v)) v .sound) in
     let g = good _ _ _ x k in
     let p = phase-fits (x .m) (x .r) (x .phase) (g .m-high) (g .r-high) (inside _ _ x k) in
     let o = owed-fits (x .m) (x .owed) (g .m-high) (owable _ _ x k) in
-    let u = v .sound .fits .in-use in
-    words-are x (wordsOf x) refl (omega arith) (omega arith) (p .0) (p .1) o (omega arith)
-    (omega arith) (omega arith)
+    let u = v .sound .fits .told in
+    let t = took-fits (x .m) (x .r) (g .m-high) (g .r-high) in
+    let q : x .cycles ≡ n .cycles = ap (λ (n : Count). n .cycles) (v .counts) in
+    words-are x (wordsOf x) refl
+    (omega (arith, p .0, p .1, o, u .in-use, u .took, tag-most (x .phase), owes-most (x .owed)))
     .1
 
 module _ (h : Lent (List ℕ)) (u : Fit (h .kept)) where
