@@ -241,7 +241,7 @@ fn go_on(
     input: &[u8],
     i: usize,
 ) -> Session
-    requires { ⌜ s .stage ≡ Stage.Opening → ⊥ ⌝ }
+    requires { ⌜ (s .stage ≡ Stage.Opening → ⊥) ⌝ }
     ensures { λ t. ⌜ stand t (is left) (is right) (is colour) (is line) (is out)
         ≡ fold eats (drop i (was input))
         (stand s (was left) (was right) (was colour) (was line) (was out)) ⌝ }
