@@ -43,41 +43,37 @@ TOWORD = 7
 abbrev pub UNUSED : ℕ
 UNUSED = 8
 
--- word n of the step whose words begin at a
-abbrev pub wordAt : List ℕ → ℕ → ℕ → ℕ
-wordAt w a n = word w (a + n)
+-- the number of a word of the i-th step
+abbrev pub at : ℕ → ℕ → ℕ
+at i n = STEP_WORDS * i + n
 
--- [C 12] whether the words without a use are 0
-unfoldable pub readable : List ℕ → ℕ → Bool
-readable w a =
-    every (eqb (wordAt w a UNUSED) 0 ∷ eqb (wordAt w a (UNUSED + 1)) 0 ∷ eqb
-    (wordAt w a (UNUSED + 2)) 0 ∷ eqb (wordAt w a (UNUSED + 3)) 0 ∷ [])
+-- [C 12] whether four words from the n-th on are 0: those without a use
+unfoldable pub zeros : List ℕ → ℕ → Bool
+zeros w n =
+    every (eqb (word w n) 0 ∷ eqb (word w (n + 1)) 0 ∷ eqb (word w (n + 2)) 0 ∷ eqb
+    (word w (n + 3)) 0 ∷ [])
 
 -- a kind that no step has
 abbrev pub noKind : ℕ
 noKind = 4294967295
 
--- [C 12] the kind; where a word without a use is not 0, one that cannot be read [Steps 4]
+-- [C 12] the kind of a step; where a word without a use is not 0, one that cannot be read [Steps 4]
 unfoldable pub kindAt : List ℕ → ℕ → ℕ
-kindAt w a = pick (readable w a) (wordAt w a KIND) noKind
-
--- the step whose words begin at a
-abbrev pub stepFrom : List ℕ → ℕ → Step
-stepFrom w a =
-    record {
-      kind = kindAt w a;
-      slot = wordAt w a SLOT;
-      count = wordAt w a COUNT;
-      word = wordAt w a WORD;
-      side = wordAt w a SIDE;
-      toslot = wordAt w a TOSLOT;
-      tocount = wordAt w a TOCOUNT;
-      toword = wordAt w a TOWORD;
-    }
+kindAt w i = pick (zeros w (at i UNUSED)) (word w (at i KIND)) noKind
 
 -- the i-th step
 abbrev pub stepAt : List ℕ → ℕ → Step
-stepAt w i = stepFrom w (STEP_WORDS * i)
+stepAt w i =
+    record {
+      kind = kindAt w i;
+      slot = word w (at i SLOT);
+      count = word w (at i COUNT);
+      word = word w (at i WORD);
+      side = word w (at i SIDE);
+      toslot = word w (at i TOSLOT);
+      tocount = word w (at i TOCOUNT);
+      toword = word w (at i TOWORD);
+    }
 
 -- n steps from the i-th on
 unfoldable pub stepsFrom : List ℕ → ℕ → ℕ → List Step

@@ -15,7 +15,7 @@ ghost use Rattle.rules.specs.Steps.{step, taking, linking, shading, collecting,
 ghost use Rattle.rules.specs.Schedules.{ran, schedule, collects};
 ghost use Rattle.words.specs.Words.{isRecord};
 ghost use Rattle.jenturik_c.specs.Face.{whatOf, toldOf, noRecord, shown, placeOf};
-ghost use Rattle.jenturik_c.specs.Flat.{kindAt, stepFrom, stepsOf, scheduleOf, STEP_WORDS};
+ghost use Rattle.jenturik_c.specs.Flat.{zeros, kindAt, stepAt, stepsOf, scheduleOf, STEP_WORDS};
 ghost use Rattle.jenturik_c.specs.Runs.{lastOf};
 ghost use Rattle.jenturik_c.specs.Lent.{tells, facing, runs, facingRun, facingLast, Stays};
 ghost use Rattle.base.specs.Lent.{was, is};
@@ -306,33 +306,43 @@ pub extern "C" fn jenturik_collect_many(
     }
 }
 
-// The kind of the step whose words begin at `at`: none where a word without a use is not 0.
-fn kind_at(steps: &[u32], at: usize) -> u32
-    requires { ⌜ at + STEP_WORDS ≤ length (now steps) ⌝ }
-    ensures { λ k. ⌜ k ≡ kindAt (was steps) at ⌝ }
+// Whether four words from the n-th on are 0.
+fn zeros(steps: &[u32], n: usize) -> bool
+    requires { ⌜ n + 4 ≤ length (now steps) ⌝ }
+    ensures { λ ok. ⌜ ok ≡ zeros (was steps) n ⌝ }
 {
-    if steps[at + UNUSED] != 0 {
-        return NO_KIND;
+    if steps[n] != 0 {
+        return false;
     }
-    if steps[at + UNUSED + 1] != 0 {
-        return NO_KIND;
+    if steps[n + 1] != 0 {
+        return false;
     }
-    if steps[at + UNUSED + 2] != 0 {
-        return NO_KIND;
+    if steps[n + 2] != 0 {
+        return false;
     }
-    if steps[at + UNUSED + 3] != 0 {
+    steps[n + 3] == 0
+}
+
+// The kind of the i-th step: none that can be read where a word without a use is not 0.
+fn kind_at(steps: &[u32], i: usize) -> u32
+    requires { ⌜ STEP_WORDS * i + STEP_WORDS ≤ length (now steps) ⌝ }
+    ensures { λ k. ⌜ k ≡ kindAt (was steps) i ⌝ }
+{
+    let at = STEP_WORDS * i;
+    if !zeros(steps, at + UNUSED) {
         return NO_KIND;
     }
     steps[at + KIND]
 }
 
-// The step whose words begin at `at`.
-fn step_from(steps: &[u32], at: usize) -> Step
-    requires { ⌜ at + STEP_WORDS ≤ length (now steps) ⌝ }
-    ensures { λ a. ⌜ a ≡ stepFrom (was steps) at ⌝ }
+// The i-th step of a schedule of words.
+fn step_at(steps: &[u32], i: usize) -> Step
+    requires { ⌜ STEP_WORDS * i + STEP_WORDS ≤ length (now steps) ⌝ }
+    ensures { λ a. ⌜ a ≡ stepAt (was steps) i ⌝ }
 {
+    let at = STEP_WORDS * i;
     Step {
-        kind: kind_at(steps, at),
+        kind: kind_at(steps, i),
         slot: steps[at + SLOT],
         count: steps[at + COUNT],
         word: steps[at + WORD],
@@ -356,7 +366,7 @@ fn follow(steps: &[u32], left: &mut [u16], right: &mut [u16], colour: &mut [u8],
         steps.len() / STEP_WORDS,
     );
     while g.at < g.end {
-        g = schedule::advance(left, right, colour, g, step_from(steps, STEP_WORDS * g.at));
+        g = schedule::advance(left, right, colour, g, step_at(steps, g.at));
     }
     let rec = g.rec;
     Ran {
