@@ -93,6 +93,8 @@ jenturik_last __wrap_jenturik_collect_many(ARRAYS, uint32_t *words, size_t n) {
 jenturik_done __wrap_jenturik_schedule(ARRAYS, uint32_t *words, const uint32_t *steps,
                                        size_t numbers) {
     if (wrong(14)) numbers -= numbers % JENTURIK_STEP_WORDS; /* does the whole steps of a ragged schedule */
+    if (wrong(16) && numbers == 3 * JENTURIK_STEP_WORDS)
+        numbers = JENTURIK_STEP_WORDS; /* PLACEHOLDER */
     jenturik_done d = __real_jenturik_schedule(TABLE, steps, numbers);
     if (wrong(15) && d.code == 10 && d.done > 0) d.code = 0; /* a kind above 4 ends it quietly */
     return d;

@@ -61,11 +61,11 @@ noKind = 4294967295
 unfoldable pub kindAt : List ℕ → ℕ → ℕ
 kindAt w i = pick (zeros w (at i UNUSED)) (word w (at i KIND)) noKind
 
--- the i-th step
-abbrev pub stepAt : List ℕ → ℕ → Step
-stepAt w i =
+-- the i-th step, of a kind
+abbrev pub ofKind : List ℕ → ℕ → ℕ → Step
+ofKind w i kind =
     record {
-      kind = kindAt w i;
+      kind = kind;
       slot = word w (at i SLOT);
       count = word w (at i COUNT);
       word = word w (at i WORD);
@@ -74,6 +74,9 @@ stepAt w i =
       tocount = word w (at i TOCOUNT);
       toword = word w (at i TOWORD);
     }
+
+abbrev pub stepAt : List ℕ → ℕ → Step
+stepAt w i = ofKind w i (kindAt w i)
 
 -- n steps from the i-th on
 unfoldable pub stepsFrom : List ℕ → ℕ → ℕ → List Step

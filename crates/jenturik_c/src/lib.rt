@@ -15,7 +15,8 @@ ghost use Rattle.rules.specs.Steps.{step, taking, linking, shading, collecting,
 ghost use Rattle.rules.specs.Schedules.{ran, schedule, collects};
 ghost use Rattle.words.specs.Words.{isRecord};
 ghost use Rattle.jenturik_c.specs.Face.{whatOf, toldOf, noRecord, shown, placeOf};
-ghost use Rattle.jenturik_c.specs.Flat.{zeros, kindAt, stepAt, stepsOf, scheduleOf, STEP_WORDS};
+ghost use Rattle.jenturik_c.specs.Flat.{STEP_WORDS, zeros, kindAt, ofKind, stepAt, stepsOf};
+ghost use Rattle.jenturik_c.specs.Flat.{scheduleOf};
 ghost use Rattle.jenturik_c.specs.Runs.{lastOf};
 ghost use Rattle.jenturik_c.specs.Lent.{tells, facing, runs, facingRun, facingLast, Stays};
 ghost use Rattle.base.specs.Lent.{was, is};
@@ -335,14 +336,14 @@ fn kind_at(steps: &[u32], i: usize) -> u32
     steps[at + KIND]
 }
 
-// The i-th step of a schedule of words.
-fn step_at(steps: &[u32], i: usize) -> Step
+// The i-th step, of a kind.
+fn of_kind(steps: &[u32], i: usize, kind: u32) -> Step
     requires { ⌜ STEP_WORDS * i + STEP_WORDS ≤ length (now steps) ⌝ }
-    ensures { λ a. ⌜ a ≡ stepAt (was steps) i ⌝ }
+    ensures { λ a. ⌜ a ≡ ofKind (was steps) i kind ⌝ }
 {
     let at = STEP_WORDS * i;
     Step {
-        kind: kind_at(steps, i),
+        kind,
         slot: steps[at + SLOT],
         count: steps[at + COUNT],
         word: steps[at + WORD],
@@ -351,6 +352,14 @@ fn step_at(steps: &[u32], i: usize) -> Step
         tocount: steps[at + TOCOUNT],
         toword: steps[at + TOWORD],
     }
+}
+
+// The i-th step of a schedule of words.
+fn step_at(steps: &[u32], i: usize) -> Step
+    requires { ⌜ STEP_WORDS * i + STEP_WORDS ≤ length (now steps) ⌝ }
+    ensures { λ a. ⌜ a ≡ stepAt (was steps) i ⌝ }
+{
+    of_kind(steps, i, kind_at(steps, i))
 }
 
 // The whole steps of a schedule of words, in order until one is refused.
