@@ -15,9 +15,9 @@
  * What the caller keeps
  *
  * The table: three arrays with the nodes' left edges, right edges and colours. Each has M entries,
- * M from 3 to 4096. The record: JENTURIK_WORDS 32-bit words. Each array is passed as a pointer and its
- * number of entries; a pointer may be null if that number is 0. The arrays must be as long as the
- * numbers say, and must not overlap.
+ * M from 3 to 4096. The record: JENTURIK_WORDS words of 32 bits. Each array is passed as a pointer
+ * and its number of entries; a pointer may be null if that number is 0. The arrays must be as long
+ * as the numbers say, and must not overlap.
  *
  * A call reads and writes only these arrays. It keeps nothing and allocates nothing, and it ends,
  * whatever they hold. Between two calls the caller may read all of them (left[n] is the node that
@@ -164,55 +164,65 @@ enum { JENTURIK_STEP_WORDS = 12 };
  * last free node. Writes all three arrays and the words.
  * If it is refused (1), the arrays stay as they are and the words become all 0: the record of a
  * table of no nodes, which every other call refuses with 1. */
-jenturik_told jenturik_fresh(uint16_t *left, size_t lefts, uint16_t *right, size_t rights, uint8_t *colour, size_t colours,
-                             uint32_t words[JENTURIK_WORDS], uint32_t nodes, uint32_t slots);
+jenturik_told jenturik_fresh(uint16_t *left, size_t lefts, uint16_t *right, size_t rights,
+                             uint8_t *colour, size_t colours, uint32_t words[JENTURIK_WORDS],
+                             uint32_t nodes, uint32_t slots);
 
 /* Names the node at a place, 0 for NIL. Writes nothing. */
-jenturik_told jenturik_look(const uint16_t *left, size_t lefts, const uint16_t *right, size_t rights, const uint8_t *colour, size_t colours,
-                            const uint32_t words[JENTURIK_WORDS], uint32_t slot, uint32_t count, uint32_t word);
+jenturik_told jenturik_look(const uint16_t *left, size_t lefts, const uint16_t *right,
+                            size_t rights, const uint8_t *colour, size_t colours,
+                            const uint32_t words[JENTURIK_WORDS], uint32_t slot, uint32_t count,
+                            uint32_t word);
 
 /* Points an edge of the node at the source place (slot, count, word), on this side, to the node at
  * the target place (toslot, tocount, toword). Answers the target, whose shade is then owed: call
  * jenturik_shade before the next link or take. Looks and collector steps may come between. Writes
  * one edge and the words. */
-jenturik_told jenturik_link(uint16_t *left, size_t lefts, uint16_t *right, size_t rights, const uint8_t *colour, size_t colours,
-                            uint32_t words[JENTURIK_WORDS], uint32_t slot, uint32_t count, uint32_t word, uint32_t side, uint32_t toslot,
-                            uint32_t tocount, uint32_t toword);
+jenturik_told jenturik_link(uint16_t *left, size_t lefts, uint16_t *right, size_t rights,
+                            const uint8_t *colour, size_t colours, uint32_t words[JENTURIK_WORDS],
+                            uint32_t slot, uint32_t count, uint32_t word, uint32_t side,
+                            uint32_t toslot, uint32_t tocount, uint32_t toword);
 
 /* Shades the node owed and answers it. Writes one colour and the words. */
-jenturik_told jenturik_shade(const uint16_t *left, size_t lefts, const uint16_t *right, size_t rights, uint8_t *colour, size_t colours,
+jenturik_told jenturik_shade(const uint16_t *left, size_t lefts, const uint16_t *right,
+                             size_t rights, uint8_t *colour, size_t colours,
                              uint32_t words[JENTURIK_WORDS]);
 
 /* Takes the first free node off the free list, and points the edge of the node at the place, on
  * this side, to it. The left edge of the node taken becomes NIL; its right edge is NIL in every run
  * from a fresh table. Answers the node taken. Writes three edges, at most two colours and the
  * words. */
-jenturik_told jenturik_take(uint16_t *left, size_t lefts, uint16_t *right, size_t rights, uint8_t *colour, size_t colours,
-                            uint32_t words[JENTURIK_WORDS], uint32_t slot, uint32_t count, uint32_t word, uint32_t side);
+jenturik_told jenturik_take(uint16_t *left, size_t lefts, uint16_t *right, size_t rights,
+                            uint8_t *colour, size_t colours, uint32_t words[JENTURIK_WORDS],
+                            uint32_t slot, uint32_t count, uint32_t word, uint32_t side);
 
 /* Makes one collector step. Answers what was done and the node that it was done to. Writes at most
  * three edges or one colour, and the words. */
-jenturik_told jenturik_collect(uint16_t *left, size_t lefts, uint16_t *right, size_t rights, uint8_t *colour, size_t colours,
-                               uint32_t words[JENTURIK_WORDS]);
+jenturik_told jenturik_collect(uint16_t *left, size_t lefts, uint16_t *right, size_t rights,
+                               uint8_t *colour, size_t colours, uint32_t words[JENTURIK_WORDS]);
 
 /* Makes n collector steps, or as many as are done before one is refused. It does exactly what n
  * calls of jenturik_collect do, much faster. If n is 0, codes 1 and 2 are judged, and otherwise the
  * answer is JENTURIK_NAMED with node 0. */
-jenturik_last jenturik_collect_many(uint16_t *left, size_t lefts, uint16_t *right, size_t rights, uint8_t *colour, size_t colours,
-                                    uint32_t words[JENTURIK_WORDS], size_t n);
+jenturik_last jenturik_collect_many(uint16_t *left, size_t lefts, uint16_t *right, size_t rights,
+                                    uint8_t *colour, size_t colours, uint32_t words[JENTURIK_WORDS],
+                                    size_t n);
 
 /* Makes the steps of a schedule in order, until one is refused. The refused step changes nothing;
  * the steps before it stay done. The steps are `numbers` words, JENTURIK_STEP_WORDS to a step in
  * the order of jenturik_step. If `numbers` is no multiple of that, nothing is done and the code
  * is 10. Codes 1 and 2 are judged first, for an empty schedule too. The steps are not written. */
-jenturik_done jenturik_schedule(uint16_t *left, size_t lefts, uint16_t *right, size_t rights, uint8_t *colour, size_t colours,
-                                uint32_t words[JENTURIK_WORDS], const uint32_t *steps, size_t numbers);
+jenturik_done jenturik_schedule(uint16_t *left, size_t lefts, uint16_t *right, size_t rights,
+                                uint8_t *colour, size_t colours, uint32_t words[JENTURIK_WORDS],
+                                const uint32_t *steps, size_t numbers);
 
 /* The same over an array of `count` steps. */
-static inline jenturik_done jenturik_schedule_steps(uint16_t *left, size_t lefts, uint16_t *right, size_t rights, uint8_t *colour, size_t colours,
-                                                    uint32_t words[JENTURIK_WORDS], const jenturik_step *steps, size_t count) {
-    return jenturik_schedule(left, lefts, right, rights, colour, colours, words, (const uint32_t *)steps,
-                             JENTURIK_STEP_WORDS * count);
+static inline jenturik_done jenturik_schedule_steps(uint16_t *left, size_t lefts, uint16_t *right,
+                                                    size_t rights, uint8_t *colour, size_t colours,
+                                                    uint32_t words[JENTURIK_WORDS],
+                                                    const jenturik_step *steps, size_t count) {
+    return jenturik_schedule(left, lefts, right, rights, colour, colours, words,
+                             (const uint32_t *)steps, JENTURIK_STEP_WORDS * count);
 }
 
 #ifdef __cplusplus

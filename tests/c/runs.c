@@ -268,8 +268,8 @@ static void reading_only(void) {
         fence_forbid(&t.words, 0);
     uint32_t *lent_steps = fence_lay(&call_steps, steps, sizeof steps, 1);
     fence_forbid(&call_steps, 1);
-    check(jenturik_schedule(LENT(&t), lent_steps, JENTURIK_STEP_WORDS).code == 0, "schedule writes no step",
-          "schedule", 0);
+    check(jenturik_schedule(LENT(&t), lent_steps, JENTURIK_STEP_WORDS).code == 0,
+          "schedule writes no step", "schedule", 0);
     fence_forbid(&call_steps, 0);
 }
 

@@ -51,8 +51,9 @@ module _ (w : List ℕ) where
   abbrev pub Stands : Going → List ℕ → List ℕ → List ℕ → Going → State → Type 0
   Stands g₀ l r c g s = Inv (stepsOf w) (schedule (stepsOf w) (state l r c (g₀ .rec))) g s
 
-  pub starts : (l r c : List ℕ) (x : Record) (g : Going) → g
-      ≡ begun (check (state l r c x)) (length w / STEP_WORDS) x → Stands g l r c g (state l r c (g .rec))
+  pub starts : (l r c : List ℕ) (x : Record) (g : Going)
+      → g ≡ begun (check (state l r c x)) (length w / STEP_WORDS) x
+      → Stands g l r c g (state l r c (g .rec))
   starts l r c x g e =
       subst (λ (y : Record). Inv (stepsOf w) (schedule (stepsOf w) (state l r c y)) g
       (state l r c (g .rec))) (sym (same-record _ _ x g e))
@@ -74,8 +75,9 @@ module _ (w : List ℕ) where
         turns (stepsOf w) last g s a d l r c g′ i lt
         (e ∙ ap (λ (z : Step). step z s) (q ∙ sym (at (g .at) a below))) h
 
-  pub ends : (l r c : List ℕ) (x : Record) (g₀ g : Going) (s : State) → g₀
-      ≡ begun (check (state l r c x)) (length w / STEP_WORDS) x → Stands g₀ l r c g s → g .end ≤ g .at
+  pub ends : (l r c : List ℕ) (x : Record) (g₀ g : Going) (s : State)
+      → g₀ ≡ begun (check (state l r c x)) (length w / STEP_WORDS) x → Stands g₀ l r c g s
+      → g .end ≤ g .at
       → followed (g .at) (g .code) s ≡ schedule (stepsOf w) (state l r c x)
   ends l r c x g₀ g s e i le =
       sym (leaves (stepsOf w) _ g s i le)

@@ -56,7 +56,8 @@ pub words-follow : (v : List ℕ) → Follows (scheduleOf v) (stepsOf v)
 unfolding scheduleOf run
 words-follow v s =
     split (λ (z : Followed). z .state ≡ run (take (z .done) (stepsOf v)) s)
-    (eqb (length v % STEP_WORDS) 0) (schedule (stepsOf v) s) (followed 0 (first (check s ∷ 10 ∷ [])) s)
+    (eqb (length v % STEP_WORDS) 0) (schedule (stepsOf v) s)
+    (followed 0 (first (check s ∷ 10 ∷ [])) s)
     (λ q. schedule-run (stepsOf v) s) (λ q. refl)
 
 module _ (l r c w : List ℕ) where
