@@ -15,9 +15,9 @@
  * What the caller keeps
  *
  * The table: three arrays with the nodes' left edges, right edges and colours. Each has M entries,
- * M from 3 to 4096. The record: sixteen 32-bit words. Each array is passed as a pointer and its
- * number of entries; a pointer may be null if that number is 0. The arrays must be as long as the
- * numbers say, and must not overlap.
+ * M from 3 to 4096. The record: JENTURIK_WORDS words of 32 bits. Each array is passed as a pointer
+ * and its number of entries; a pointer may be null if that number is 0. The arrays must be as long
+ * as the numbers say, and must not overlap.
  *
  * A call reads and writes only these arrays. It keeps nothing and allocates nothing, and it ends,
  * whatever they hold. Between two calls the caller may read all of them (left[n] is the node that
@@ -96,7 +96,8 @@ enum {
     JENTURIK_BLACKENED = 11, /* nodes blackened in this marking */
     JENTURIK_IN_USE = 12,    /* nodes blackened in the last completed marking: NIL, FREE,
                                 the slots and the free nodes are counted too */
-    JENTURIK_WORDS = 16      /* words 13, 14 and 15 are not used yet, and are 0 */
+    JENTURIK_USED = 13,      /* the words from here on are not used yet, and are 0 */
+    JENTURIK_WORDS = 24      /* how many there are */
 };
 
 /* What was done. */
@@ -126,8 +127,8 @@ enum {
     JENTURIK_DAMAGED = 7,         /* the call met a bad edge or colour; the answer has its node */
     JENTURIK_SOURCE_IS_NIL = 8,   /* link or take: the source place is NIL, which has no edges */
     JENTURIK_NO_FREE_NODE = 9,    /* take: the free list is empty */
-    JENTURIK_UNREADABLE = 10      /* a side above 1, a kind above 4, or a schedule whose number of
-                                     words is no multiple of eight */
+    JENTURIK_UNREADABLE = 10      /* a side above 1, a kind above 4, an unused word of a step that
+                                     is not 0, or a schedule with words left over */
 };
 
 /* An answer: what was done, the code, and the node. A refusal's node is 0, but for code 7. */
@@ -150,64 +151,78 @@ typedef struct {
 } jenturik_last;
 
 /* A step of a schedule. The kinds are take 0, link 1, shade 2, one collector step 3, look 4. A
- * kind reads only the fields that it needs. */
+ * kind reads only the fields that it needs. The unused words are 0, whatever the kind is. */
 typedef struct {
-    uint32_t kind, slot, count, word, side, toslot, tocount, toword;
+    uint32_t kind, slot, count, word, side, toslot, tocount, toword, unused[4];
 } jenturik_step;
+
+/* How many words a step has. */
+enum { JENTURIK_STEP_WORDS = 12 };
 
 /* Makes a fresh table of `nodes` nodes and `slots` slots in arrays of `nodes` entries, and its
  * record: no edges, every node white, the nodes from R + 2 on free, in rising order. Answers the
  * last free node. Writes all three arrays and the words.
  * If it is refused (1), the arrays stay as they are and the words become all 0: the record of a
  * table of no nodes, which every other call refuses with 1. */
-jenturik_told jenturik_fresh(uint16_t *left, size_t lefts, uint16_t *right, size_t rights, uint8_t *colour, size_t colours,
-                             uint32_t words[JENTURIK_WORDS], uint32_t nodes, uint32_t slots);
+jenturik_told jenturik_fresh(uint16_t *left, size_t lefts, uint16_t *right, size_t rights,
+                             uint8_t *colour, size_t colours, uint32_t words[JENTURIK_WORDS],
+                             uint32_t nodes, uint32_t slots);
 
 /* Names the node at a place, 0 for NIL. Writes nothing. */
-jenturik_told jenturik_look(const uint16_t *left, size_t lefts, const uint16_t *right, size_t rights, const uint8_t *colour, size_t colours,
-                            const uint32_t words[JENTURIK_WORDS], uint32_t slot, uint32_t count, uint32_t word);
+jenturik_told jenturik_look(const uint16_t *left, size_t lefts, const uint16_t *right,
+                            size_t rights, const uint8_t *colour, size_t colours,
+                            const uint32_t words[JENTURIK_WORDS], uint32_t slot, uint32_t count,
+                            uint32_t word);
 
 /* Points an edge of the node at the source place (slot, count, word), on this side, to the node at
  * the target place (toslot, tocount, toword). Answers the target, whose shade is then owed: call
  * jenturik_shade before the next link or take. Looks and collector steps may come between. Writes
  * one edge and the words. */
-jenturik_told jenturik_link(uint16_t *left, size_t lefts, uint16_t *right, size_t rights, const uint8_t *colour, size_t colours,
-                            uint32_t words[JENTURIK_WORDS], uint32_t slot, uint32_t count, uint32_t word, uint32_t side, uint32_t toslot,
-                            uint32_t tocount, uint32_t toword);
+jenturik_told jenturik_link(uint16_t *left, size_t lefts, uint16_t *right, size_t rights,
+                            const uint8_t *colour, size_t colours, uint32_t words[JENTURIK_WORDS],
+                            uint32_t slot, uint32_t count, uint32_t word, uint32_t side,
+                            uint32_t toslot, uint32_t tocount, uint32_t toword);
 
 /* Shades the node owed and answers it. Writes one colour and the words. */
-jenturik_told jenturik_shade(const uint16_t *left, size_t lefts, const uint16_t *right, size_t rights, uint8_t *colour, size_t colours,
+jenturik_told jenturik_shade(const uint16_t *left, size_t lefts, const uint16_t *right,
+                             size_t rights, uint8_t *colour, size_t colours,
                              uint32_t words[JENTURIK_WORDS]);
 
 /* Takes the first free node off the free list, and points the edge of the node at the place, on
  * this side, to it. The left edge of the node taken becomes NIL; its right edge is NIL in every run
  * from a fresh table. Answers the node taken. Writes three edges, at most two colours and the
  * words. */
-jenturik_told jenturik_take(uint16_t *left, size_t lefts, uint16_t *right, size_t rights, uint8_t *colour, size_t colours,
-                            uint32_t words[JENTURIK_WORDS], uint32_t slot, uint32_t count, uint32_t word, uint32_t side);
+jenturik_told jenturik_take(uint16_t *left, size_t lefts, uint16_t *right, size_t rights,
+                            uint8_t *colour, size_t colours, uint32_t words[JENTURIK_WORDS],
+                            uint32_t slot, uint32_t count, uint32_t word, uint32_t side);
 
 /* Makes one collector step. Answers what was done and the node that it was done to. Writes at most
  * three edges or one colour, and the words. */
-jenturik_told jenturik_collect(uint16_t *left, size_t lefts, uint16_t *right, size_t rights, uint8_t *colour, size_t colours,
-                               uint32_t words[JENTURIK_WORDS]);
+jenturik_told jenturik_collect(uint16_t *left, size_t lefts, uint16_t *right, size_t rights,
+                               uint8_t *colour, size_t colours, uint32_t words[JENTURIK_WORDS]);
 
 /* Makes n collector steps, or as many as are done before one is refused. It does exactly what n
  * calls of jenturik_collect do, much faster. If n is 0, codes 1 and 2 are judged, and otherwise the
  * answer is JENTURIK_NAMED with node 0. */
-jenturik_last jenturik_collect_many(uint16_t *left, size_t lefts, uint16_t *right, size_t rights, uint8_t *colour, size_t colours,
-                                    uint32_t words[JENTURIK_WORDS], size_t n);
+jenturik_last jenturik_collect_many(uint16_t *left, size_t lefts, uint16_t *right, size_t rights,
+                                    uint8_t *colour, size_t colours, uint32_t words[JENTURIK_WORDS],
+                                    size_t n);
 
 /* Makes the steps of a schedule in order, until one is refused. The refused step changes nothing;
- * the steps before it stay done. The steps are `numbers` words, eight to a step in the order of
- * jenturik_step. If `numbers` is no multiple of eight, nothing is done and the code is 10. Codes 1
- * and 2 are judged first, for an empty schedule too. The steps are not written. */
-jenturik_done jenturik_schedule(uint16_t *left, size_t lefts, uint16_t *right, size_t rights, uint8_t *colour, size_t colours,
-                                uint32_t words[JENTURIK_WORDS], const uint32_t *steps, size_t numbers);
+ * the steps before it stay done. The steps are `numbers` words, JENTURIK_STEP_WORDS to a step in
+ * the order of jenturik_step. If `numbers` is no multiple of that, nothing is done and the code
+ * is 10. Codes 1 and 2 are judged first, for an empty schedule too. The steps are not written. */
+jenturik_done jenturik_schedule(uint16_t *left, size_t lefts, uint16_t *right, size_t rights,
+                                uint8_t *colour, size_t colours, uint32_t words[JENTURIK_WORDS],
+                                const uint32_t *steps, size_t numbers);
 
 /* The same over an array of `count` steps. */
-static inline jenturik_done jenturik_schedule_steps(uint16_t *left, size_t lefts, uint16_t *right, size_t rights, uint8_t *colour, size_t colours,
-                                                    uint32_t words[JENTURIK_WORDS], const jenturik_step *steps, size_t count) {
-    return jenturik_schedule(left, lefts, right, rights, colour, colours, words, (const uint32_t *)steps, 8 * count);
+static inline jenturik_done jenturik_schedule_steps(uint16_t *left, size_t lefts, uint16_t *right,
+                                                    size_t rights, uint8_t *colour, size_t colours,
+                                                    uint32_t words[JENTURIK_WORDS],
+                                                    const jenturik_step *steps, size_t count) {
+    return jenturik_schedule(left, lefts, right, rights, colour, colours, words,
+                             (const uint32_t *)steps, JENTURIK_STEP_WORDS * count);
 }
 
 #ifdef __cplusplus

@@ -51,7 +51,8 @@ static inline answer of_last(jenturik_last a) {
 
 /* A schedule of so many words: a collector step, a look at slot 0, and a word too many. */
 static inline answer call_schedule(lent *t, size_t numbers) {
-    static const uint32_t words[17] = {3, 0, 0, 0, 0, 0, 0, 0, 4, 0, 0, 0, 0, 0, 0, 0, 3};
+    static const uint32_t words[2 * JENTURIK_STEP_WORDS + 1] = {
+        [0] = 3, [JENTURIK_STEP_WORDS] = 4, [2 * JENTURIK_STEP_WORDS] = 3};
     uint32_t *steps = fence_lay(&call_steps, words, 4 * numbers, 1);
     jenturik_done d = jenturik_schedule(LENT(t), steps, numbers);
     if (!fence_kept(&call_steps) || (numbers != 0 && memcmp(steps, words, 4 * numbers) != 0))
@@ -77,11 +78,11 @@ static inline answer call(lent *t, int which) {
     case MANY_NONE:
         return of_last(jenturik_collect_many(LENT(t), 0));
     case SCHEDULE:
-        return call_schedule(t, 16);
+        return call_schedule(t, 2 * JENTURIK_STEP_WORDS);
     case SCHEDULE_EMPTY:
         return call_schedule(t, 0);
     default:
-        return call_schedule(t, 17);
+        return call_schedule(t, 2 * JENTURIK_STEP_WORDS + 1);
     }
 }
 

@@ -43,7 +43,7 @@ static void nulls(void) {
         if (which == 1 || which == 3) bad.rights = 0;
         if (which == 2 || which == 3) bad.colours = 0;
         all_refuse(1, "null and length 0", which);
-        bad.words[15] = 1;
+        bad.words[JENTURIK_WORDS - 1] = 1;
         all_refuse(2, "null and length 0, words that are no record", which);
     }
     memset(bad.words, 0, sizeof bad.words);
@@ -90,7 +90,7 @@ static void words_of_phase(uint32_t phase, uint32_t owes) {
     put_word(JENTURIK_OWES, UINT32_MAX, 2);
     if (phase != 1) put_word(JENTURIK_K, 1, 2), put_word(JENTURIK_K, 65535, 2);
     if (owes == 0) put_word(JENTURIK_OWED, 1, 2), put_word(JENTURIK_OWED, 2, 2);
-    for (int word = 13; word < JENTURIK_WORDS; word++)
+    for (int word = JENTURIK_USED; word < JENTURIK_WORDS; word++)
         put_word(word, 1, 2), put_word(word, BIG, 2), put_word(word, UINT32_MAX, 2);
 }
 
@@ -119,10 +119,13 @@ static void numbers_of_phase(uint32_t phase) {
 
 /* Whether words are a record's, by the header. */
 static int is_record(const uint32_t *w) {
-    int narrow = w[0] < BIG && w[1] < BIG && w[3] < BIG && w[4] < BIG && w[6] < BIG && w[7] < BIG &&
-                 w[11] < BIG && w[12] < BIG;
-    int phase = w[2] <= 5 && (w[2] == 1 || w[4] == 0), owes = w[5] <= 1 && (w[5] == 1 || w[6] == 0);
-    return narrow && phase && owes && w[13] == 0 && w[14] == 0 && w[15] == 0;
+    int good = w[JENTURIK_PHASE] <= 5 && (w[JENTURIK_PHASE] == 1 || w[JENTURIK_K] == 0) &&
+               w[JENTURIK_OWES] <= 1 && (w[JENTURIK_OWES] == 1 || w[JENTURIK_OWED] == 0);
+    for (int i = 0; i < JENTURIK_USED; i++)
+        good = good && (w[i] < BIG || i == JENTURIK_STEPS || i == JENTURIK_CYCLES ||
+                        i == JENTURIK_TOOK);
+    for (int i = JENTURIK_USED; i < JENTURIK_WORDS; i++) good = good && w[i] == 0;
+    return good;
 }
 
 /* Random words: those that are no record's are refused with 2, and a refused call of either sort
@@ -137,7 +140,7 @@ static void random_words(long count) {
         memcpy(bad.words, sound.words, sizeof bad.words);
         set_phase(&bad, below(6), below(2));
         for (uint32_t n = below(4); n > 0; n--)
-            bad.words[below(16)] = below(2) ? some[below(16)] : below(9);
+            bad.words[below(JENTURIK_WORDS)] = below(2) ? some[below(16)] : below(9);
         lend(&t, &bad, (int)below(2));
         answer a = call(&t, (int)below(CALLS));
         take_back(&t, &after);

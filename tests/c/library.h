@@ -14,9 +14,12 @@ static inline jenturik_last library_many(const struct table *t, uint32_t *w, siz
 }
 
 static inline void words_of(uint32_t *w, const struct record *x) {
-    w[0] = x->m, w[1] = x->r, w[2] = x->phase, w[3] = x->i, w[4] = x->phase == SCAN ? x->k : 0;
-    w[5] = x->owes, w[6] = x->owes ? x->owed : 0, w[7] = x->last, w[8] = x->steps, w[9] = x->cycles,
-    w[10] = x->took;
-    w[11] = x->blackened, w[12] = x->inuse, w[13] = w[14] = w[15] = 0;
+    for (int i = JENTURIK_USED; i < JENTURIK_WORDS; i++) w[i] = 0;
+    w[JENTURIK_NODES] = x->m, w[JENTURIK_SLOTS] = x->r;
+    w[JENTURIK_PHASE] = x->phase, w[JENTURIK_I] = x->i, w[JENTURIK_K] = x->phase == SCAN ? x->k : 0;
+    w[JENTURIK_OWES] = x->owes, w[JENTURIK_OWED] = x->owes ? x->owed : 0;
+    w[JENTURIK_LAST] = x->last, w[JENTURIK_STEPS] = x->steps, w[JENTURIK_CYCLES] = x->cycles;
+    w[JENTURIK_TOOK] = x->took, w[JENTURIK_BLACKENED] = x->blackened;
+    w[JENTURIK_IN_USE] = x->inuse;
 }
 #endif

@@ -50,7 +50,7 @@ static void damage(uint32_t m) {
         start.colour[i] = (uint8_t)below(3);
         break;
     case 4:
-        start.words[below(13)] = below(m + 2);
+        start.words[below(JENTURIK_USED)] = below(m + 2);
         break;
     default:
         start.left[i] = (uint16_t)below(m);
@@ -81,7 +81,7 @@ static void many_against_single(int damaged, uint32_t tables) {
 static jenturik_done by_own_calls(const uint32_t *steps, size_t count) {
     jenturik_done d = {0, jenturik_schedule(LENT(&t), NULL, 0).code};
     while (d.code == 0 && d.done < count) {
-        const uint32_t *s = steps + 8 * d.done;
+        const uint32_t *s = steps + JENTURIK_STEP_WORDS * d.done;
         d.code = jenturik_schedule(LENT(&t), NULL, 0).code;
         if (d.code == 0) d.code = s[0] > 4 ? JENTURIK_UNREADABLE : own_call(&t, s).code;
         d.done += d.code == 0;
@@ -93,22 +93,29 @@ static jenturik_done by_own_calls(const uint32_t *steps, size_t count) {
  * largest among them. */
 static void schedules_against_single(uint32_t tables) {
     static const uint32_t kinds[] = {0, 1, 2, 3, 3, 3, 4, 5};
-    uint32_t steps[8 * 20], wrong = 0;
+    uint32_t steps[JENTURIK_STEP_WORDS * 20], wrong = 0;
     size_t done = 0;
     for (uint32_t i = 0; i < tables; i++) {
         uint32_t m = 3 + below(30), r = 1 + below(m - 2), count = below(21);
         make_sound(&start, m, r, below(12));
         if (i % 3 == 0) damage(m);
         for (uint32_t j = 0; j < count; j++) {
-            const uint32_t one[] = {kinds[below(j % 5 == 4 ? 8 : 7)], below(r), below(2), 0,
-                                    below(j % 7 == 6 ? 3 : 2),        below(r), 1,        below(2)};
-            memcpy(steps + 8 * j, one, sizeof one);
+            const jenturik_step one = {kinds[below(j % 5 == 4 ? 8 : 7)],
+                                       below(r),
+                                       below(2),
+                                       0,
+                                       below(j % 7 == 6 ? 3 : 2),
+                                       below(r),
+                                       1,
+                                       below(2),
+                                       {0}};
+            memcpy(steps + JENTURIK_STEP_WORDS * j, &one, sizeof one);
         }
         lend(&t, &start, 0);
         jenturik_done a = by_own_calls(steps, count);
         take_back(&t, &single);
         lend(&t, &start, 1);
-        jenturik_done b = jenturik_schedule(LENT(&t), steps, 8 * count);
+        jenturik_done b = jenturik_schedule(LENT(&t), steps, JENTURIK_STEP_WORDS * count);
         take_back(&t, &after);
         wrong += a.done != b.done || a.code != b.code || !same(&single, &after);
         done += b.done;
@@ -193,10 +200,8 @@ static void nil_owed(void) {
 
 /* Schedules: of structs, cut short by a refusal, ragged, empty. */
 static void schedules(void) {
-    static const jenturik_step steps[] = {{0, 0, 0, 0, 0, 0, 0, 0},
-                                          {1, 0, 0, 0, 1, 0, 1, 0},
-                                          {0, 0, 0, 0, 1, 0, 0, 0},
-                                          {2, 0, 0, 0, 0, 0, 0, 0}};
+    static const jenturik_step steps[] = {
+        {.kind = 0}, {.kind = 1, .side = 1, .tocount = 1}, {.kind = 0, .side = 1}, {.kind = 2}};
     make_fresh(&start, 5, 1);
     lend(&t, &start, 0);
     jenturik_done d = jenturik_schedule_steps(LENT(&t), steps, 4);
@@ -210,11 +215,11 @@ static void schedules(void) {
     check(same(&after, &single), "the earlier steps stand", "schedule_steps", 2);
     d = jenturik_schedule_steps(LENT(&t), steps + 3, 1);
     check(d.done == 1 && d.code == 0, "a schedule of one step", "schedule_steps", 1);
-    for (size_t numbers = 1; numbers < 32; numbers++) {
+    for (size_t numbers = 1; numbers < 4 * JENTURIK_STEP_WORDS; numbers++) {
         lend(&t, &start, (int)(numbers % 2));
         d = jenturik_schedule(LENT(&t), (const uint32_t *)steps, numbers);
         take_back(&t, &after);
-        if (numbers % 8 == 0) continue;
+        if (numbers % JENTURIK_STEP_WORDS == 0) continue;
         check(d.done == 0 && d.code == JENTURIK_UNREADABLE && same(&start, &after),
               "a ragged schedule", "schedule", (long)numbers);
     }
@@ -224,9 +229,32 @@ static void schedules(void) {
     check(d.done == 0 && d.code == 0 && same(&start, &after), "an empty schedule", "schedule", 0);
 }
 
+/* A step of each kind with a word that is not 0 where it has no use, behind one that is done: 10,
+ * and the first stands. Codes 1 and 2 come before it. */
+static void unused_words(uint32_t kind) {
+    static const uint32_t values[] = {1, 65536, 0x80000000u, UINT32_MAX};
+    make_fresh(&start, 5, 1);
+    lend(&t, &start, 0);
+    jenturik_collect(LENT(&t));
+    take_back(&t, &single);
+    for (size_t i = 0; i < 4 * (JENTURIK_STEP_WORDS - STEP_USED); i++) {
+        jenturik_step steps[] = {{.kind = 3}, {.kind = kind}, {.kind = 3}};
+        steps[1].unused[i / 4] = values[i % 4];
+        lend(&t, &start, (int)(i % 2));
+        jenturik_done d = jenturik_schedule_steps(LENT(&t), steps, 3);
+        take_back(&t, &after);
+        check(d.done == 1 && d.code == JENTURIK_UNREADABLE && same(&single, &after),
+              "an unused word of a step", "schedule", (long)kind);
+        t.w[JENTURIK_LAST] = 0;
+        d = jenturik_schedule_steps(LENT(&t), steps + 1, 1);
+        check(d.done == 0 && d.code == JENTURIK_BAD_RECORD, "code 2 comes before", "schedule",
+              (long)kind);
+    }
+}
+
 /* Forbids writing what a call has for reading only: a write would end the program. */
 static void reading_only(void) {
-    static const uint32_t steps[] = {3, 0, 0, 0, 0, 0, 0, 0};
+    static const uint32_t steps[JENTURIK_STEP_WORDS] = {3};
     make_fresh(&start, 5, 1);
     lend(&t, &start, 1);
     fence_forbid(&t.colours, 1);
@@ -240,15 +268,16 @@ static void reading_only(void) {
         fence_forbid(&t.words, 0);
     uint32_t *lent_steps = fence_lay(&call_steps, steps, sizeof steps, 1);
     fence_forbid(&call_steps, 1);
-    check(jenturik_schedule(LENT(&t), lent_steps, 8).code == 0, "schedule writes no step",
-          "schedule", 0);
+    check(jenturik_schedule(LENT(&t), lent_steps, JENTURIK_STEP_WORDS).code == 0,
+          "schedule writes no step", "schedule", 0);
     fence_forbid(&call_steps, 0);
 }
 
 int main(void) {
     trial_open();
-    check(sizeof(jenturik_step) == 32, "a step is eight words", "jenturik_step",
-          (long)sizeof(jenturik_step));
+    check(sizeof(jenturik_step) == JENTURIK_STEP_WORDS * sizeof(uint32_t), "a step's words",
+          "jenturik_step", (long)sizeof(jenturik_step));
+    check(STEP_USED == 8 && JENTURIK_STEP_WORDS == 12 && JENTURIK_WORDS == 24, "words", "all", 0);
     many_against_single(0, 300);
     many_against_single(1, 600);
     schedules_against_single(3000);
@@ -256,6 +285,7 @@ int main(void) {
     every_code();
     nil_owed();
     schedules();
+    for (uint32_t kind = 0; kind < 6; kind++) unused_words(kind);
     reading_only();
     return trial_close();
 }

@@ -19,7 +19,7 @@ static char line[LINE], out[LINE];
 static char *in, *to;
 static int high; /* against which page the arrays lie: in turn */
 static table given, after, again;
-static uint32_t steps[8 * STEPS];
+static uint32_t steps[JENTURIK_STEP_WORDS * STEPS];
 static lent t;
 static fence order;
 
@@ -62,13 +62,13 @@ static void read_arrays(void) {
 
 static void read_state(void) {
     memset(given.words, 0, sizeof given.words);
-    for (int i = 0; i < 13; i++) given.words[i] = word();
+    for (int i = 0; i < JENTURIK_USED; i++) given.words[i] = word();
     read_arrays();
 }
 
 static void put_state(const table *s) {
-    for (int i = 0; i < 13; i++) put(s->words[i]);
-    for (int i = 13; i < JENTURIK_WORDS; i++)
+    for (int i = 0; i < JENTURIK_USED; i++) put(s->words[i]);
+    for (int i = JENTURIK_USED; i < JENTURIK_WORDS; i++)
         if (s->words[i] != 0) fence_fail("a word that has no use is not 0");
     put(s->lefts);
     for (size_t i = 0; i < s->lefts; i++) put(s->left[i]);
@@ -78,11 +78,17 @@ static void put_state(const table *s) {
     for (size_t i = 0; i < s->colours; i++) put(s->colour[i]);
 }
 
+/* The numbers of a step; its words without a use are 0. */
+static void read_step(uint32_t *step) {
+    memset(step, 0, sizeof(jenturik_step));
+    for (int i = 0; i < STEP_USED; i++) step[i] = word();
+}
+
 /* A schedule of some of the steps read, which must not change. */
 static jenturik_done follow(const uint32_t *from, size_t count) {
-    size_t bytes = 32 * count;
+    size_t bytes = count * sizeof(jenturik_step);
     const uint32_t *lent_steps = fence_lay(&order, from, bytes, high);
-    jenturik_done d = jenturik_schedule(LENT(&t), lent_steps, 8 * count);
+    jenturik_done d = jenturik_schedule(LENT(&t), lent_steps, JENTURIK_STEP_WORDS * count);
     if (!fence_kept(&order) || (bytes != 0 && memcmp(lent_steps, from, bytes) != 0))
         fence_fail("the steps were written");
     return d;
@@ -113,7 +119,7 @@ static void by_many(jenturik_told told) {
 
 static void state_line(void) {
     read_state();
-    for (int i = 0; i < 8; i++) steps[i] = word();
+    read_step(steps);
     lend(&t, &given, high);
     jenturik_done d = follow(steps, 1);
     take_back(&t, &after);
@@ -137,7 +143,7 @@ static size_t read_run(void) {
     read_state();
     uint64_t count = number();
     if (count > STEPS) fence_fail("too many steps");
-    for (size_t i = 0; i < 8 * count; i++) steps[i] = word();
+    for (size_t i = 0; i < count; i++) read_step(steps + JENTURIK_STEP_WORDS * i);
     lend(&t, &given, high);
     return (size_t)count;
 }
@@ -157,7 +163,7 @@ static void run_line(void) {
 /* The collector steps from the i-th step on, as many as stand together. */
 static size_t span(size_t i, size_t count) {
     size_t n = 0;
-    while (i + n < count && steps[8 * (i + n)] == 3) n++;
+    while (i + n < count && steps[JENTURIK_STEP_WORDS * (i + n)] == 3) n++;
     return n;
 }
 
@@ -167,7 +173,7 @@ static void many_line(void) {
     while (all.code == 0 && all.done < count) {
         size_t n = span(all.done, count);
         if (n == 0) {
-            jenturik_done d = follow(steps + 8 * all.done, 1);
+            jenturik_done d = follow(steps + JENTURIK_STEP_WORDS * all.done, 1);
             all.done += d.done, all.code = d.code;
         } else {
             jenturik_last a = jenturik_collect_many(LENT(&t), n);

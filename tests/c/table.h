@@ -5,7 +5,8 @@
 #include "fence.h"
 #include "jenturik.h"
 
-enum { MOST = 16384 };
+/* The words of a step that have a use come first. */
+enum { MOST = 16384, STEP_USED = offsetof(jenturik_step, unused) / sizeof(uint32_t) };
 
 typedef struct {
     uint32_t words[JENTURIK_WORDS];

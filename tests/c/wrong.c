@@ -59,7 +59,7 @@ jenturik_told __wrap_jenturik_link(EDGES_ARRAYS, uint32_t *words, PLACE, uint32_
 }
 
 jenturik_told __wrap_jenturik_shade(COLOUR_ARRAYS, uint32_t *words) {
-    if (wrong(6)) words[15] = 0; /* overlooks a word that has no use */
+    if (wrong(6)) words[JENTURIK_WORDS - 1] = 0; /* overlooks a word that has no use */
     jenturik_told a = __real_jenturik_shade(TABLE);
     if (wrong(7) && a.code == 0) colour[a.node] = 2; /* black instead of gray */
     return a;
@@ -90,9 +90,19 @@ jenturik_last __wrap_jenturik_collect_many(ARRAYS, uint32_t *words, size_t n) {
     return a;
 }
 
+/* A copy of the steps, their unused words 0. */
+static const uint32_t *without_unused(const uint32_t *steps, size_t numbers) {
+    static uint32_t copy[JENTURIK_STEP_WORDS * 1000];
+    const size_t used = offsetof(jenturik_step, unused) / sizeof(uint32_t);
+    for (size_t i = 0; i < numbers; i++)
+        copy[i] = i % JENTURIK_STEP_WORDS < used ? steps[i] : 0;
+    return copy;
+}
+
 jenturik_done __wrap_jenturik_schedule(ARRAYS, uint32_t *words, const uint32_t *steps,
                                        size_t numbers) {
-    if (wrong(14)) numbers -= numbers % 8; /* does the whole steps of a ragged schedule */
+    if (wrong(14)) numbers -= numbers % JENTURIK_STEP_WORDS; /* does the whole steps alone */
+    if (wrong(16)) steps = without_unused(steps, numbers); /* overlooks a step's unused words */
     jenturik_done d = __real_jenturik_schedule(TABLE, steps, numbers);
     if (wrong(15) && d.code == 10 && d.done > 0) d.code = 0; /* a kind above 4 ends it quietly */
     return d;

@@ -34,7 +34,7 @@ pub extern "C" fn jenturik_steps(
     left: &mut [u16],
     right: &mut [u16],
     colour: &mut [u8],
-    words: &mut [u32; 16],
+    words: &mut [u32; words::WORDS],
     n: usize,
 ) -> usize
     ensures { λ d. ⌜ stepped d (is left) (is right) (is colour) (is words)

@@ -29,7 +29,7 @@ use Rattle.schedule.proofs.Runs.{schedule-run}
 use Rattle.words.specs.Words.{wordsOf, recordOf, isRecord}
 use Rattle.words.proofs.RoundTrip.{words-back}
 use Rattle.jenturik_c.specs.Face.{Faced, toldOf, shown, faced, face}
-use Rattle.jenturik_c.specs.Flat.{stepsOf, scheduleOf}
+use Rattle.jenturik_c.specs.Flat.{stepsOf, scheduleOf, STEP_WORDS}
 use Rattle.jenturik_c.specs.Runs.{FacedRun, facedRun, shownRun, faceRun}
 use Rattle.jenturik_c.specs.declared.Told.{Told}
 
@@ -55,8 +55,9 @@ schedule-follows cs s = schedule-run cs s
 pub words-follow : (v : List ℕ) → Follows (scheduleOf v) (stepsOf v)
 unfolding scheduleOf run
 words-follow v s =
-    split (λ (z : Followed). z .state ≡ run (take (z .done) (stepsOf v)) s) (eqb (length v % 8) 0)
-    (schedule (stepsOf v) s) (followed 0 (first (check s ∷ 10 ∷ [])) s)
+    split (λ (z : Followed). z .state ≡ run (take (z .done) (stepsOf v)) s)
+    (eqb (length v % STEP_WORDS) 0) (schedule (stepsOf v) s)
+    (followed 0 (first (check s ∷ 10 ∷ [])) s)
     (λ q. schedule-run (stepsOf v) s) (λ q. refl)
 
 module _ (l r c w : List ℕ) where

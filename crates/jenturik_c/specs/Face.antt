@@ -1,8 +1,6 @@
 -- What a call does for a caller that keeps the record as words: the section C of docs/RULES.md.
 use Rattle.base.specs.Choice.{pick}
 use Prim.Native.Nat.{ℕ}
-use mathlib.Core.Bool.{true}
-use mathlib.Core.Path.{_≡_}
 use mathlib.Core.List.{List, [], _∷_}
 use Rattle.rules.specs.Table.{State, Outcome, state}
 use Rattle.rules.specs.Steps.{codeOf, nodeOf}
@@ -57,10 +55,6 @@ noRecord = record { what = 0; code = 2; node = 0 }
 -- [C 1] the call f, where the words are a record's; [C 4] else nothing changes
 unfoldable pub face : (State → Outcome) → List ℕ → List ℕ → List ℕ → List ℕ → Faced
 face f l r c w = pick (isRecord w) (shown (f (state l r c (recordOf w)))) (faced noRecord l r c w)
-
--- [C 9] words that are a record's stay a record's
-abbrev pub Stays : List ℕ → List ℕ → Type 0
-Stays w v = true ≡ isRecord w → true ≡ isRecord v
 
 -- a place as a caller gives it
 abbrev pub placeOf : ℕ → ℕ → ℕ → Place

@@ -1,5 +1,5 @@
-// The library for callers in C: each call over three slices and sixteen words that the caller
-// keeps.
+// The library for callers in C: each call over three slices and the record's words, which the
+// caller keeps.
 use rules::Answer;
 use rules::Place;
 use rules::Ran;
@@ -14,12 +14,38 @@ ghost use Rattle.rules.specs.Fresh.{fresh};
 ghost use Rattle.rules.specs.Steps.{step, taking, linking, shading, collecting, looking};
 ghost use Rattle.rules.specs.Schedules.{ran, schedule, collects};
 ghost use Rattle.words.specs.Words.{isRecord};
-ghost use Rattle.jenturik_c.specs.Face.{whatOf, toldOf, noRecord, shown, faced, face, Stays};
-ghost use Rattle.jenturik_c.specs.Face.{placeOf};
-ghost use Rattle.jenturik_c.specs.Flat.{stepAt, stepsOf, scheduleOf};
-ghost use Rattle.jenturik_c.specs.Runs.{facedRun, faceRun, lastOf, lastTold};
+ghost use Rattle.jenturik_c.specs.Face.{whatOf, toldOf, noRecord, shown, placeOf};
+ghost use Rattle.jenturik_c.specs.Flat.{STEP_WORDS, zeros, kindAt, ofKind, stepAt, stepsOf};
+ghost use Rattle.jenturik_c.specs.Flat.{scheduleOf};
+ghost use Rattle.jenturik_c.specs.Runs.{lastOf};
+ghost use Rattle.jenturik_c.specs.Lent.{tells, facing, runs, facingRun, facingLast, Stays};
 ghost use Rattle.base.specs.Lent.{was, is};
 ghost use Rattle.rules.specs.Lent.{given};
+
+// How many words a step of a schedule has, and the number of each, by the names of
+// include/jenturik.h. From UNUSED on they have no use.
+const STEP_WORDS: usize = 12;
+
+const KIND: usize = 0;
+
+const SLOT: usize = 1;
+
+const COUNT: usize = 2;
+
+const WORD: usize = 3;
+
+const SIDE: usize = 4;
+
+const TOSLOT: usize = 5;
+
+const TOCOUNT: usize = 6;
+
+const TOWORD: usize = 7;
+
+const UNUSED: usize = 8;
+
+// A kind that no step has.
+const NO_KIND: u32 = 4294967295;
 
 // What a call answers: what was done (0: refused), the code, the node.
 #[repr(C)]
@@ -90,13 +116,13 @@ pub extern "C" fn jenturik_fresh(
     left: &mut [u16],
     right: &mut [u16],
     colour: &mut [u8],
-    words: &mut [u32; 16],
+    words: &mut [u32; words::WORDS],
     nodes: u32,
     slots: u32,
 ) -> Told
-    ensures { λ t. ⌜ (faced t (is left) (is right) (is colour) (is words)
-        ≡ shown (fresh nodes slots (was left ∷ was right ∷ []) (was colour))) × (true
-        ≡ isRecord (is words)) ⌝ }
+    ensures { λ t. ⌜ tells t left right colour words
+        ≡ shown (fresh nodes slots (was left ∷ was right ∷ []) (was colour)) ⌝ }
+    ensures { λ t. ⌜ true ≡ isRecord (is words) ⌝ }
 {
     let made = fresh::fresh(left, right, colour, nodes as usize, slots as usize);
     let rec = made.rec;
@@ -112,14 +138,13 @@ pub extern "C" fn jenturik_look(
     left: &[u16],
     right: &[u16],
     colour: &[u8],
-    words: &[u32; 16],
+    words: &[u32; words::WORDS],
     slot: u32,
     count: u32,
     word: u32,
 ) -> Told
-    ensures { λ t. ⌜ faced t (was left) (was right) (was colour) (was words)
-        ≡ face (step (looking (placeOf slot count word))) (was left) (was right) (was colour)
-        (was words) ⌝ }
+    ensures { λ t. ⌜ tells t left right colour words
+        ≡ facing (step (looking (placeOf slot count word))) left right colour words ⌝ }
 {
     let w = *words;
     if !words::is_record(w) {
@@ -137,7 +162,7 @@ pub extern "C" fn jenturik_link(
     left: &mut [u16],
     right: &mut [u16],
     colour: &[u8],
-    words: &mut [u32; 16],
+    words: &mut [u32; words::WORDS],
     slot: u32,
     count: u32,
     word: u32,
@@ -146,9 +171,10 @@ pub extern "C" fn jenturik_link(
     tocount: u32,
     toword: u32,
 ) -> Told
-    ensures { λ t. ⌜ (faced t (is left) (is right) (was colour) (is words)
-        ≡ face (step (linking (placeOf slot count word) side (placeOf toslot tocount toword)))
-        (was left) (was right) (was colour) (was words)) × Stays (was words) (is words) ⌝ }
+    ensures { λ t. ⌜ tells t left right colour words
+        ≡ facing (step (linking (placeOf slot count word) side (placeOf toslot tocount toword)))
+        left right colour words ⌝ }
+    ensures { λ t. ⌜ Stays words ⌝ }
 {
     let w = *words;
     if !words::is_record(w) {
@@ -174,11 +200,11 @@ pub extern "C" fn jenturik_shade(
     left: &[u16],
     right: &[u16],
     colour: &mut [u8],
-    words: &mut [u32; 16],
+    words: &mut [u32; words::WORDS],
 ) -> Told
-    ensures { λ t. ⌜ (faced t (was left) (was right) (is colour) (is words)
-        ≡ face (step shading) (was left) (was right) (was colour) (was words)) × Stays
-        (was words) (is words) ⌝ }
+    ensures { λ t. ⌜ tells t left right colour words
+        ≡ facing (step shading) left right colour words ⌝ }
+    ensures { λ t. ⌜ Stays words ⌝ }
 {
     let w = *words;
     if !words::is_record(w) {
@@ -198,15 +224,15 @@ pub extern "C" fn jenturik_take(
     left: &mut [u16],
     right: &mut [u16],
     colour: &mut [u8],
-    words: &mut [u32; 16],
+    words: &mut [u32; words::WORDS],
     slot: u32,
     count: u32,
     word: u32,
     side: u32,
 ) -> Told
-    ensures { λ t. ⌜ (faced t (is left) (is right) (is colour) (is words)
-        ≡ face (step (taking (placeOf slot count word) side)) (was left) (was right)
-        (was colour) (was words)) × Stays (was words) (is words) ⌝ }
+    ensures { λ t. ⌜ tells t left right colour words
+        ≡ facing (step (taking (placeOf slot count word) side)) left right colour words ⌝ }
+    ensures { λ t. ⌜ Stays words ⌝ }
 {
     let w = *words;
     if !words::is_record(w) {
@@ -227,11 +253,11 @@ pub extern "C" fn jenturik_collect(
     left: &mut [u16],
     right: &mut [u16],
     colour: &mut [u8],
-    words: &mut [u32; 16],
+    words: &mut [u32; words::WORDS],
 ) -> Told
-    ensures { λ t. ⌜ (faced t (is left) (is right) (is colour) (is words)
-        ≡ face (step collecting) (was left) (was right) (was colour) (was words)) × Stays
-        (was words) (is words) ⌝ }
+    ensures { λ t. ⌜ tells t left right colour words
+        ≡ facing (step collecting) left right colour words ⌝ }
+    ensures { λ t. ⌜ Stays words ⌝ }
 {
     let w = *words;
     if !words::is_record(w) {
@@ -251,13 +277,13 @@ pub extern "C" fn jenturik_collect_many(
     left: &mut [u16],
     right: &mut [u16],
     colour: &mut [u8],
-    words: &mut [u32; 16],
+    words: &mut [u32; words::WORDS],
     n: usize,
 ) -> Last
-    ensures { λ r. ⌜ (facedRun (r .done) (r .code) (is left) (is right) (is colour) (is words)
-        ≡ faceRun (schedule (collects n)) (was left) (was right) (was colour) (was words)) ×
-        (lastOf r ≡ lastTold n (was left) (was right) (was colour) (was words)) × Stays
-        (was words) (is words) ⌝ }
+    ensures { λ r. ⌜ runs (r .done) (r .code) left right colour words
+        ≡ facingRun (schedule (collects n)) left right colour words ⌝ }
+    ensures { λ r. ⌜ lastOf r ≡ facingLast n left right colour words ⌝ }
+    ensures { λ r. ⌜ Stays words ⌝ }
 {
     let w = *words;
     if !words::is_record(w) {
@@ -281,22 +307,59 @@ pub extern "C" fn jenturik_collect_many(
     }
 }
 
-// The i-th step of a schedule of words, eight to a step.
+// Whether four words from the n-th on are 0.
+fn zeros(steps: &[u32], n: usize) -> bool
+    requires { ⌜ n + 4 ≤ length (now steps) ⌝ }
+    ensures { λ ok. ⌜ ok ≡ zeros (was steps) n ⌝ }
+{
+    if steps[n] != 0 {
+        return false;
+    }
+    if steps[n + 1] != 0 {
+        return false;
+    }
+    if steps[n + 2] != 0 {
+        return false;
+    }
+    steps[n + 3] == 0
+}
+
+// The kind of the i-th step: none that can be read where a word without a use is not 0.
+fn kind_at(steps: &[u32], i: usize) -> u32
+    requires { ⌜ STEP_WORDS * i + STEP_WORDS ≤ length (now steps) ⌝ }
+    ensures { λ k. ⌜ k ≡ kindAt (was steps) i ⌝ }
+{
+    let at = STEP_WORDS * i;
+    if !zeros(steps, at + UNUSED) {
+        return NO_KIND;
+    }
+    steps[at + KIND]
+}
+
+// The i-th step, of a kind.
+fn of_kind(steps: &[u32], i: usize, kind: u32) -> Step
+    requires { ⌜ STEP_WORDS * i + STEP_WORDS ≤ length (now steps) ⌝ }
+    ensures { λ a. ⌜ a ≡ ofKind (was steps) i kind ⌝ }
+{
+    let at = STEP_WORDS * i;
+    Step {
+        kind,
+        slot: steps[at + SLOT],
+        count: steps[at + COUNT],
+        word: steps[at + WORD],
+        side: steps[at + SIDE],
+        toslot: steps[at + TOSLOT],
+        tocount: steps[at + TOCOUNT],
+        toword: steps[at + TOWORD],
+    }
+}
+
+// The i-th step of a schedule of words.
 fn step_at(steps: &[u32], i: usize) -> Step
-    requires { ⌜ 8 * i + 8 ≤ length (now steps) ⌝ }
+    requires { ⌜ STEP_WORDS * i + STEP_WORDS ≤ length (now steps) ⌝ }
     ensures { λ a. ⌜ a ≡ stepAt (was steps) i ⌝ }
 {
-    let at = 8 * i;
-    Step {
-        kind: steps[at],
-        slot: steps[at + 1],
-        count: steps[at + 2],
-        word: steps[at + 3],
-        side: steps[at + 4],
-        toslot: steps[at + 5],
-        tocount: steps[at + 6],
-        toword: steps[at + 7],
-    }
+    of_kind(steps, i, kind_at(steps, i))
 }
 
 // The whole steps of a schedule of words, in order until one is refused.
@@ -304,7 +367,13 @@ fn follow(steps: &[u32], left: &mut [u16], right: &mut [u16], colour: &mut [u8],
     ensures { λ r. ⌜ ran r (is left) (is right) (is colour)
         ≡ schedule (stepsOf (was steps)) (given left right colour x) ⌝ }
 {
-    let mut g = schedule::begin(left.len(), right.len(), colour.len(), x, steps.len() / 8);
+    let mut g = schedule::begin(
+        left.len(),
+        right.len(),
+        colour.len(),
+        x,
+        steps.len() / STEP_WORDS,
+    );
     while g.at < g.end {
         g = schedule::advance(left, right, colour, g, step_at(steps, g.at));
     }
@@ -327,7 +396,7 @@ fn schedule_of(
     ensures { λ r. ⌜ ran r (is left) (is right) (is colour)
         ≡ scheduleOf (was steps) (given left right colour x) ⌝ }
 {
-    if steps.len() % 8 != 0 {
+    if steps.len() % STEP_WORDS != 0 {
         return Ran {
             done: 0,
             code: calls::unreadable(left.len(), right.len(), colour.len(), x),
@@ -337,18 +406,18 @@ fn schedule_of(
     follow(steps, left, right, colour, x)
 }
 
-// A schedule: steps of eight words each, in order until one is refused.
+// A schedule of words: its steps in order, until one is refused.
 #[no_mangle]
 pub extern "C" fn jenturik_schedule(
     left: &mut [u16],
     right: &mut [u16],
     colour: &mut [u8],
-    words: &mut [u32; 16],
+    words: &mut [u32; words::WORDS],
     steps: &[u32],
 ) -> Done
-    ensures { λ r. ⌜ (facedRun (r .done) (r .code) (is left) (is right) (is colour) (is words)
-        ≡ faceRun (scheduleOf (was steps)) (was left) (was right) (was colour) (was words)) ×
-        Stays (was words) (is words) ⌝ }
+    ensures { λ r. ⌜ runs (r .done) (r .code) left right colour words
+        ≡ facingRun (scheduleOf (was steps)) left right colour words ⌝ }
+    ensures { λ r. ⌜ Stays words ⌝ }
 {
     let w = *words;
     if !words::is_record(w) {

@@ -1,6 +1,6 @@
 -- Words and records correspond: a record's words give the record back, and words that are a
 -- record's are that record's words.
-use Prim.Native.Nat.{ℕ, zero, suc, _+_, _≤_}
+use Prim.Native.Nat.{ℕ, zero, suc, _+_, _-_, _≤_}
 use native.Mathlib.Omega.{arith}
 use mathlib.Core.Bool.{Bool, true, false}
 use mathlib.Core.List.{List, [], _∷_}
@@ -18,7 +18,8 @@ use Rattle.rules.specs.declared.Phase.the-variants.{Roots, Scan, Left, Right, B
 use Rattle.rules.specs.declared.Owed.{Owed}
 use Rattle.rules.specs.declared.Owed.the-variants.{Nothing, Node}
 use Rattle.words.specs.Words.{word, tagOf, kOf, owesOf, owedOf, wordsOf, phaseOf, shadeOf}
-use Rattle.words.specs.Words.{recordOf, flagged, isRecord}
+use Rattle.words.specs.Words.{recordOf, flagged, isRecord, WORDS, USED, unused}
+use Rattle.words.specs.Words.{PHASE, I, K, OWES, OWED}
 use Rattle.words.proofs.Widths.{widths}
 
 phase-back : (p : Phase) → phaseOf (tagOf p) (position p) (kOf p) ≡ p
@@ -121,8 +122,10 @@ unfolding recordOf isRecord
 words-back w e =
     let t = each _ e in
     let f = widths w e in
-    let p = phase-there (word w 2) (word w 3) (word w 4) (omega (arith, f)) (sym (t .1 .1 .0)) in
-    let o = owed-there (word w 5) (word w 6) (omega (arith, f)) (sym (t .1 .1 .1 .0)) in
-    let all = parts w 16 0 (sym (eqb-true (length w) 16 (t .0))) in
-    let same : wordsOf (recordOf w) ≡ part w 0 16 = search (none, f, p, o) depth 20 in
+    let p = phase-there (word w PHASE) (word w I) (word w K) (omega (arith, f))
+    (sym (t .1 .1 .0)) in
+    let o = owed-there (word w OWES) (word w OWED) (omega (arith, f)) (sym (t .1 .1 .1 .0)) in
+    let all = parts w WORDS 0 (sym (eqb-true (length w) WORDS (t .0))) in
+    let idle : unused ≡ part w USED (WORDS - USED) = search (none, f) depth 16 in
+    let same : wordsOf (recordOf w) ≡ part w 0 WORDS = search (idle, p, o) depth 16 in
     same ∙ sym all

@@ -17,7 +17,7 @@ use Rattle.rules.specs.declared.Phase.the-variants.{Roots, Scan, Left, Right, B
 use Rattle.rules.specs.declared.Owed.{Owed}
 use Rattle.rules.specs.declared.Owed.the-variants.{Nothing, Node}
 use Rattle.words.specs.Words.{word, tagOf, kOf, owesOf, owedOf, wordsOf, most, within}
-use Rattle.words.specs.Words.{flagged, isRecord, Within}
+use Rattle.words.specs.Words.{flagged, isRecord, Within, WORDS}
 
 pub none-within : (w : List ℕ) → true ≡ within w 0
 unfolding within
@@ -50,9 +50,9 @@ exceeds w n (suc k) h q = go (eqb n k) refl (λ l. exceeds w n k l q)
     go true e f = let z = eqb-true n k e in later-no _ _ (rw (← z) (le-no _ _ q))
     go false e f = let z = eqb-false n k e in every-here _ _ (f (omega arith))
 
-pub stops : (w top : List ℕ) (n : ℕ) → top ≡ most → n < 16 → word top n < word w n → false
-    ≡ within w 16
-stops w top n e h q = exceeds w n 16 h (rw e at q)
+pub stops : (w top : List ℕ) (n : ℕ) → top ≡ most → n < WORDS → word top n < word w n → false
+    ≡ within w WORDS
+stops w top n e h q = exceeds w n WORDS h (rw e at q)
 
 -- the tests as facts
 facts-of : (w : List ℕ) (n : ℕ) → true ≡ within w n → Within w n
@@ -64,9 +64,9 @@ tests-of : (w : List ℕ) (n : ℕ) → Within w n → true ≡ within w n
 tests-of w zero e = none-within w
 tests-of w (suc n) e = one-more w n (tests-of w n (e .0)) (e .1)
 
-pub widths : (w : List ℕ) → true ≡ isRecord w → Within w 16
+pub widths : (w : List ℕ) → true ≡ isRecord w → Within w WORDS
 unfolding isRecord
-widths w e = facts-of w 16 (sym (each _ e .1 .0))
+widths w e = facts-of w WORDS (sym (each _ e .1 .0))
 
 -- a phase's and a shade's words
 pub tag-most : (p : Phase) → tagOf p ≤ 5
@@ -95,12 +95,12 @@ unfolding flagged
 owed-flagged Nothing = search tests
 owed-flagged (Node n) = search tests
 
-pub words-are : (x : Record) (w : List ℕ) → w ≡ wordsOf x → Within (wordsOf x) 16
+pub words-are : (x : Record) (w : List ℕ) → w ≡ wordsOf x → Within (wordsOf x) WORDS
     → (w ≡ wordsOf x) × (true ≡ isRecord w)
 unfolding isRecord
 words-are x w q h = (q, subst (λ (v : List ℕ). true ≡ isRecord v) (sym q) all)
   where
     all : true ≡ isRecord (wordsOf x)
     all =
-        every-skip _ _ _ (eq-yes 16 16 refl) (every-skip _ _ _ (tests-of _ 16 h)
+        every-skip _ _ _ (eq-yes WORDS WORDS refl) (every-skip _ _ _ (tests-of _ WORDS h)
         (every-skip _ _ _ (k-flagged (x .phase)) (every-last _ _ (owed-flagged (x .owed)))))

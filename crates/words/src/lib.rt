@@ -1,4 +1,4 @@
-// The record as sixteen 32-bit words, for callers that have no enums.
+// The record as 32-bit words, for callers that have no enums.
 use rules::Owed;
 use rules::Phase;
 use rules::Record;
@@ -6,7 +6,36 @@ ghost use mathlib.Core.Path.{_≡_};
 ghost use mathlib.Core.Bool.{true};
 ghost use Rattle.words.specs.Words.{tagOf, kOf, owesOf, owedOf, laidOut, wordsOf, phaseOf};
 ghost use Rattle.words.specs.Words.{shadeOf, pickedUp, recordOf, most, within, flagged};
-ghost use Rattle.words.specs.Words.{isRecord, Within};
+ghost use Rattle.words.specs.Words.{isRecord, Within, WORDS};
+
+// How many words there are, and the number of each, by the names of include/jenturik.h.
+pub const WORDS: usize = 24;
+
+const NODES: usize = 0;
+
+const SLOTS: usize = 1;
+
+const PHASE: usize = 2;
+
+const I: usize = 3;
+
+const K: usize = 4;
+
+const OWES: usize = 5;
+
+const OWED: usize = 6;
+
+const LAST: usize = 7;
+
+const STEPS: usize = 8;
+
+const CYCLES: usize = 9;
+
+const TOOK: usize = 10;
+
+const BLACKENED: usize = 11;
+
+const IN_USE: usize = 12;
 
 fn tag(p: Phase) -> u32
     ensures { λ n. ⌜ n ≡ tagOf p ⌝ }
@@ -52,7 +81,7 @@ fn owed(o: Owed) -> u16
     }
 }
 
-fn laid_out(x: Record, tag: u32, i: u16, k: u16, owes: u32, n: u16) -> [u32; 16]
+fn laid_out(x: Record, tag: u32, i: u16, k: u16, owes: u32, n: u16) -> [u32; WORDS]
     ensures { λ w. ⌜ w ≡ laidOut x tag i k owes n ⌝ }
 {
     let m = x.m;
@@ -77,12 +106,21 @@ fn laid_out(x: Record, tag: u32, i: u16, k: u16, owes: u32, n: u16) -> [u32; 16]
         0,
         0,
         0,
+        0,
+        0,
+        0,
+        0,
+        0,
+        0,
+        0,
+        0,
     ]
 }
 
 // The record's words.
-pub fn words_of(x: Record) -> [u32; 16]
-    ensures { λ w. ⌜ (w ≡ wordsOf x) × (true ≡ isRecord w) ⌝ }
+pub fn words_of(x: Record) -> [u32; WORDS]
+    ensures { λ w. ⌜ w ≡ wordsOf x ⌝ }
+    ensures { λ w. ⌜ true ≡ isRecord w ⌝ }
 {
     let p = x.phase;
     let o = x.owed;
@@ -90,7 +128,7 @@ pub fn words_of(x: Record) -> [u32; 16]
 }
 
 // The most that each word may be: 0 for those that have no use.
-fn most() -> [u32; 16]
+fn most() -> [u32; WORDS]
     ensures { λ w. ⌜ w ≡ most ⌝ }
 {
     [
@@ -110,15 +148,23 @@ fn most() -> [u32; 16]
         0,
         0,
         0,
+        0,
+        0,
+        0,
+        0,
+        0,
+        0,
+        0,
+        0,
     ]
 }
 
-fn within(w: [u32; 16]) -> bool
-    ensures { λ ok. ⌜ ok ≡ within w 16 ⌝ }
+fn within(w: [u32; WORDS]) -> bool
+    ensures { λ ok. ⌜ ok ≡ within w WORDS ⌝ }
 {
     let top = most();
     let mut n = 0;
-    while n < 16 {
+    while n < WORDS {
         if top[n] < w[n] {
             return false;
         }
@@ -137,16 +183,16 @@ fn flagged(flag: u32, n: u32) -> bool
 }
 
 // Whether words are a record's.
-pub fn is_record(w: [u32; 16]) -> bool
+pub fn is_record(w: [u32; WORDS]) -> bool
     ensures { λ ok. ⌜ ok ≡ isRecord w ⌝ }
 {
     if !within(w) {
         return false;
     }
-    if !flagged(w[2], w[4]) {
+    if !flagged(w[PHASE], w[K]) {
         return false;
     }
-    flagged(w[5], w[6])
+    flagged(w[OWES], w[OWED])
 }
 
 fn phase_of(tag: u32, i: u16, k: u16) -> Phase
@@ -179,30 +225,30 @@ fn shade_of(owes: u32, n: u16) -> Owed
     Owed::Node(n)
 }
 
-fn picked_up(w: [u32; 16], phase: Phase, owed: Owed) -> Record
-    requires { ⌜ Within w 16 ⌝ }
+fn picked_up(w: [u32; WORDS], phase: Phase, owed: Owed) -> Record
+    requires { ⌜ Within w WORDS ⌝ }
     ensures { λ x. ⌜ x ≡ pickedUp w phase owed ⌝ }
 {
     Record {
-        m: w[0] as u16,
-        r: w[1] as u16,
+        m: w[NODES] as u16,
+        r: w[SLOTS] as u16,
         phase,
         owed,
-        last: w[7] as u16,
-        steps: w[8],
-        cycles: w[9],
-        took: w[10],
-        blackened: w[11] as u16,
-        inuse: w[12] as u16,
+        last: w[LAST] as u16,
+        steps: w[STEPS],
+        cycles: w[CYCLES],
+        took: w[TOOK],
+        blackened: w[BLACKENED] as u16,
+        inuse: w[IN_USE] as u16,
     }
 }
 
 // The record that words are.
-pub fn record_of(w: [u32; 16]) -> Record
+pub fn record_of(w: [u32; WORDS]) -> Record
     requires { ⌜ true ≡ isRecord w ⌝ }
     ensures { λ x. ⌜ x ≡ recordOf w ⌝ }
 {
-    let phase = phase_of(w[2], w[3] as u16, w[4] as u16);
-    let owed = shade_of(w[5], w[6] as u16);
+    let phase = phase_of(w[PHASE], w[I] as u16, w[K] as u16);
+    let owed = shade_of(w[OWES], w[OWED] as u16);
     picked_up(w, phase, owed)
 }

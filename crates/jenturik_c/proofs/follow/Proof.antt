@@ -1,3 +1,5 @@
+-- At the loop's test the run stands as `schedule/proofs/Loop.antt` says; a turn gives it the step
+-- that stands at its place among the words, and at its end the run has followed them all.
 use Prim.Native.Nat.{_-_}
 use mathlib.Core.Path.{_≡_, refl}
 use lib.ListN.{length}

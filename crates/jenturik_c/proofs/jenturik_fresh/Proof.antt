@@ -1,3 +1,4 @@
+-- What Fresh leaves is shown as it is, and the words are those of the record that it hands back.
 use borrow.Author.Needs.{needs}
 use Rattle.jenturik_c.proofs.Faces.{shows}
 use Rattle.jenturik_c.proofs.jenturik_fresh.Statement.{statement}

@@ -1,3 +1,5 @@
+-- Words that are no record's are answered by `no_record`. Else Look's contract over the record that
+-- the words are is the face's; it changes nothing, so that the words are the record's still.
 use mathlib.Core.Path.{_∙_}
 use borrow.Author.Needs.{needs}
 use Rattle.base.proofs.Tests.{not-no, not-yes}

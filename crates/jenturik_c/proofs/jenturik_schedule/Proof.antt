@@ -1,3 +1,5 @@
+-- Words that are no record's are refused with 2. Else the schedule is made over the record that the
+-- words are: its contract is the face's, and the record's words are written back.
 use mathlib.Core.Path.{_∙_}
 use borrow.Author.Needs.{needs}
 use Rattle.base.proofs.Tests.{not-no, not-yes}

@@ -1,3 +1,5 @@
+-- Where words are left over, the definition asks for what `unreadable` answers; else it is the
+-- schedule that `follow` makes.
 use borrow.Author.Needs.{needs}
 use Rattle.base.proofs.Tests.{pick-yes, pick-no, eq-yes, eq-no}
 use Rattle.calls.specs.Unreadable.{unreadable}

@@ -1,3 +1,5 @@
+-- Each test of the definition is one call: a test that fails decides, and the last one else. The
+-- words are as many as the array's type says.
 use borrow.Author.Needs.{needs}
 use Rattle.base.proofs.Tests.{tests}
 use Rattle.words.specs.Words.{isRecord}

@@ -4,16 +4,16 @@ use native.Mathlib.Omega.{arith}
 use mathlib.Core.Bool.{true}
 use mathlib.Core.Path.{_≡_}
 use borrow.Author.Needs.{needs}
-use Rattle.words.specs.Words.{within}
+use Rattle.words.specs.Words.{within, WORDS}
 use Rattle.words.proofs.Widths.{none-within, goes-on, stops}
 use Rattle.words.proofs.within.Statement.{statement}
 use Rattle.words.proofs.within.Tie as tie
 
 abbrev Inv-loop : tie.InvT-loop
-Inv-loop w top n₀ n = (true ≡ within w n) × (n ≤ 16)
+Inv-loop w top n₀ n = (true ≡ within w n) × (n ≤ WORDS)
 
 abbrev μ-loop : tie.MeasureT-loop
-μ-loop w top n₀ n = 16 - n
+μ-loop w top n₀ n = WORDS - n
 
 most-requires : tie.Need-most-requires Inv-loop μ-loop
 most-requires c κs = search needs
@@ -50,7 +50,7 @@ loop-again c = (
 )
 
 returns-2 : tie.Need-returns-2 Inv-loop μ-loop
-returns-2 c = let z : c .before .loop .n ≡ 16 = omega arith in rw z at (c .before .loop .inv .0)
+returns-2 c = let z : c .before .loop .n ≡ WORDS = omega arith in rw z at (c .before .loop .inv .0)
 
 pub within-spec : {M : Type 1} → statement M
 within-spec =
