@@ -1,3 +1,5 @@
+-- `collect_many` meets its contract: codes 1 and 2 are judged first, as in the definition, and from
+-- a record that passes n steps of `more` are the schedule of n collector steps.
 use mathlib.Core.Path.{sym, _∙_}
 use native.Mathlib.Omega.{arith}
 use borrow.Author.Needs.{needs}

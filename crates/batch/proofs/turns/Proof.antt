@@ -1,3 +1,6 @@
+-- `turns` meets its contract: before each turn the n steps from the start come to the n - done
+-- steps from here. A turn goes on by its steps, and ends the run where its last one is refused or
+-- leaves a count past its limit, after which a step is refused with code 2.
 use Prim.Native.Nat.{_-_, _≤_}
 use mathlib.Core.Path.{_≡_, refl, sym, _∙_}
 use lib.ListN.{length}

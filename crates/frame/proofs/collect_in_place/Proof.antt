@@ -1,8 +1,10 @@
--- [Calls 4] A walk of the MIR, by hand. The record's borrow is opened, the record is copied out of
--- its cell, the three slices and the copy are passed to `collect`, the record that comes back is
--- stored over the cell whole, and the borrow is closed at it. The slices go to the callee at their
--- own lifetimes, shares and ghost names, and are given up for good: what `collect` says of their
--- last lists is what is said here. The walk names no field of the record.
+-- [Calls 4] `collect_in_place` meets its contract: it is one call of `collect` with a copy of the
+-- record, and what `collect` says of the record that comes back holds of the cell it is stored to.
+-- A walk of the MIR, by hand. The record's borrow is opened, the record is copied out of its cell,
+-- the three slices and the copy are passed to `collect`, the record that comes back is stored over
+-- the cell whole, and the borrow is closed at it. The slices go to the callee at their own
+-- lifetimes, shares and ghost names, and are given up for good: what `collect` says of their last
+-- lists is what is said here. The walk names no field of the record.
 use mathlib.Core.Path.{_≡_, refl, ap}
 use mathlib.Core.List.{[], _∷_, List}
 use Prim.Native.Nat.{ℕ}

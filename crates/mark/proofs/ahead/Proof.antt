@@ -1,3 +1,5 @@
+-- `ahead` meets its contract in each of its cases: the first look stops; no colour stops one; only
+-- the node lit last does, and the looks end there; or the colours are read, up to the table's end.
 use native.Mathlib.Omega.{arith}
 use borrow.Author.Needs.{needs}
 use Rattle.skim.proofs.Calms.{cut, nowhere, straight, everywhere, towards}

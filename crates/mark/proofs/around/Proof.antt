@@ -1,3 +1,5 @@
+-- `around` meets its contract: below m a number is its own remainder, and below two rounds it is
+-- that less m.
 use mathlib.Core.Path.{sym}
 use native.Mathlib.Omega.{arith}
 use native.Mathlib.Nat.{mod-eq-of-lt}

@@ -1,3 +1,5 @@
+-- `edge_fit` meets its contract: `true` comes only from the last test, behind the two that exclude
+-- a bad edge.
 use mathlib.Core.Bool.{false≢true}
 use native.Mathlib.Omega.{arith}
 use borrow.Author.Needs.{needs}

@@ -1,3 +1,5 @@
+-- `hop` meets its contract: `ahead` gives a number of looks that find nothing, below k and within
+-- cap. So many looks move i and k by as many and change nothing else.
 use mathlib.Core.Path.{refl}
 use native.Mathlib.Omega.{arith}
 use borrow.Author.Needs.{needs}

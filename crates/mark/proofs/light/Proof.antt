@@ -1,3 +1,5 @@
+-- `light` meets its contract: shading writes to a white node only, and that one then counts among
+-- those that stop a look, so the count grows by what is answered at most.
 use native.Mathlib.Omega.{arith}
 use borrow.Author.Needs.{needs}
 use Rattle.base.proofs.Tests.{tests}

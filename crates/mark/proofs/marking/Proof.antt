@@ -1,3 +1,6 @@
+-- `marking` meets its contract: before each turn the steps that were made lead from the start to s.
+-- A turn of the marking leads on from there; the loop ends where it adds no step, so the measure,
+-- what is left of cap, falls.
 use Prim.Native.Nat.{_-_}
 use mathlib.Core.Path.{_≡_, refl}
 use lib.ListN.{length}

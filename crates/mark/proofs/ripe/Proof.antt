@@ -1,3 +1,5 @@
+-- `ripe` meets its contract: `true` comes only from the last test, and each test passed on the way
+-- is a part of the fact.
 use mathlib.Core.Path.{sym}
 use mathlib.Core.Bool.{false≢true}
 use native.Mathlib.Omega.{arith}

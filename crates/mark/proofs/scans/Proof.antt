@@ -1,3 +1,6 @@
+-- `scans` meets its contract: the spot that the loop starts from stands for the record itself, with
+-- a count of stops that is high enough, and the record of the spot at the end is where its steps
+-- lead.
 use native.Mathlib.Omega.{arith}
 use borrow.Author.Needs.{needs}
 use Rattle.mark.specs.Spots.{standing}

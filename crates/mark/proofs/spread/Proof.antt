@@ -1,3 +1,6 @@
+-- `spread` meets its contract: the three writes are those of the definition in its order. Shading
+-- leaves gray gray, so i still counts among the stops until it is made black, and then counts no
+-- more.
 use native.Mathlib.Omega.{arith}
 use borrow.Author.Needs.{needs}
 use Rattle.mark.proofs.Marks.{few-left}

@@ -1,3 +1,5 @@
+-- `stirring` meets its contract: of n colours at most n stop a look, whether they are counted or
+-- not.
 use native.Mathlib.Omega.{arith}
 use borrow.Author.Needs.{needs}
 use Rattle.skim.proofs.Counts.{stirs-most}

@@ -1,3 +1,5 @@
+-- `turn` meets its contract: the looks lead from s to h and the visit on from there, where `ripe`
+-- has found all that it needs.
 use mathlib.Core.Path.{sym}
 use borrow.Author.Needs.{needs}
 use Rattle.base.proofs.Tests.{not-no}

@@ -1,3 +1,5 @@
+-- `advance` meets its contract: what `calls::step` made is handed to `after`, and both contracts
+-- are told of it.
 use borrow.Author.Needs.{needs}
 use Rattle.schedule.proofs.advance.Statement.{statement}
 use Rattle.schedule.proofs.advance.Tie as tie

@@ -1,3 +1,4 @@
+-- `after` meets its contract: the answer's code decides, in the definition as in the code.
 use borrow.Author.Needs.{needs}
 use Rattle.base.proofs.Tests.{pick-yes, pick-no, code-yes, code-no}
 use Rattle.schedule.specs.Stands.{after}

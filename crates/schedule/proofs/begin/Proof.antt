@@ -1,3 +1,4 @@
+-- `begin` meets its contract: the test of the code is that of `begun`.
 use borrow.Author.Needs.{needs}
 use Rattle.base.proofs.Tests.{pick-yes, pick-no, code-yes, code-no}
 use Rattle.schedule.specs.Stands.{begun}

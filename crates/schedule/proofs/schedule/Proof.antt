@@ -1,8 +1,10 @@
--- A walk of the MIR, by hand, with its loop. Up to the loop, `begin` is called on plain numbers and
--- the record. In a turn a step is copied out of the lent slice, and the three slices are lent again
--- to `advance`, each for a lifetime of the call, and come back. What holds at the loop's test, and
--- that a turn keeps it, is `Loop.antt`'s. The walk names no field of the record or of a step, and
--- takes a step's size from its type.
+-- `schedule` meets its contract: at the loop's test the whole run is what is left of it, or it has
+-- ended with a code, and `advance` keeps that. This, and that a turn comes nearer to the end, is
+-- `Loop.antt`'s.
+-- What stands here is a walk of the MIR, by hand. Up to the loop, `begin` is called on plain
+-- numbers and the record. In a turn a step is copied out of the lent slice, and the three slices
+-- are lent again to `advance`, each for a lifetime of the call, and come back. The walk names no
+-- field of the record or of a step, and takes a step's size from its type.
 use mathlib.Core.Path.{_≡_, refl, sym, ap, _∙_, subst}
 use mathlib.Core.List.{[], _∷_, List}
 use mathlib.Core.{Bool.Bool, Bool.true, Bool.false, WellFounded.WellFounded}

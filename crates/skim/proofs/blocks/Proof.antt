@@ -1,3 +1,6 @@
+-- `blocks` meets its contract: before each turn none of the first d colours stops a look. A block
+-- without a stop leaves this so, and a block with one is read again up to its first. The last block
+-- may begin inside those that are known: two runs that overlap, each without a stop, are one.
 use Prim.Native.Nat.{_-_, _≤_}
 use mathlib.Core.Path.{_≡_, sym}
 use native.Mathlib.Omega.{arith}

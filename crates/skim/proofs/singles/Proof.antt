@@ -1,3 +1,5 @@
+-- `singles` meets its contract: before each turn none of the first d colours stops a look. The loop
+-- ends at the first that does, or at `most`.
 use Prim.Native.Nat.{_-_, _≤_}
 use mathlib.Core.Path.{_≡_, sym}
 use native.Mathlib.Omega.{arith}

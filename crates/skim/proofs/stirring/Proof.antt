@@ -1,3 +1,5 @@
+-- `stirring` meets its contract: before each turn `found` is the count over the first d colours. A
+-- block's count is added to it, and at the end that of the few which are left.
 use Prim.Native.Nat.{_-_, _≤_}
 use mathlib.Core.Path.{_≡_, refl, sym, _∙_}
 use lib.ListN.{length}

@@ -1,3 +1,4 @@
+-- `stops` meets its contract: its two tests are those of the definition, in the same order.
 use native.Mathlib.Omega.{arith}
 use borrow.Author.Needs.{needs}
 use Rattle.base.proofs.Tests.{tests}

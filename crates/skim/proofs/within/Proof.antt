@@ -1,3 +1,6 @@
+-- `within` meets its contract: before each turn the colours before `first`, as far as they were
+-- read, stop no look. `place` is j where the next one stops a look, and `lower` keeps the smaller
+-- of the two.
 use Prim.Native.Nat.{_-_, _≤_}
 use native.Mathlib.Omega.{arith}
 use Rattle.skim.specs.Stirs.{Upto}

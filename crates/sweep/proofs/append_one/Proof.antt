@@ -1,3 +1,6 @@
+-- `append_one` meets its contract: a black node is made white, which is a step of Append that is
+-- not the last. A white one is left to `append_white`; in every other case nothing is done, and s
+-- leads to s in no step.
 use mathlib.Core.Path.{refl}
 use native.Mathlib.Omega.{arith}
 use borrow.Author.Needs.{needs}

@@ -1,3 +1,5 @@
+-- `append_white` meets its contract: where the node is no root and not the end of the free list,
+-- the three writes are what the step of Append writes. Where it is one of them, nothing is done.
 use mathlib.Core.Path.{refl}
 use lib.ListN.{length-set}
 use native.Mathlib.Omega.{arith}

@@ -1,3 +1,6 @@
+-- `appending` meets its contract: before each turn the steps that were made lead from the start to
+-- s. `append_one` adds one step or none; the loop ends where it adds none, so the measure, what is
+-- left of cap, falls.
 use Prim.Native.Nat.{_-_, _≤_}
 use mathlib.Core.Path.{_≡_, refl}
 use lib.ListN.{length}

@@ -1,3 +1,5 @@
+-- `appends` meets its contract: the row that the loop starts from stands for the record itself, and
+-- the record of the row at the end is where its steps lead.
 use native.Mathlib.Omega.{arith}
 use borrow.Author.Needs.{needs}
 use Rattle.sweep.specs.Rows.{swept}

@@ -1,3 +1,5 @@
+-- `roots` meets its contract: `near` keeps the steps within cap and before the last root, which is
+-- all that `shading` needs for its writes to be that many steps.
 use native.Mathlib.Omega.{arith}
 use borrow.Author.Needs.{needs}
 use Rattle.rules.proofs.Good.{good, inside}

@@ -1,3 +1,5 @@
+-- `shading` meets its contract: before each turn d steps of Roots lead from the colours at entry to
+-- those now. A colour of at most 2 is shaded, which is one step more; a bad one ends the loop.
 use Prim.Native.Nat.{_-_, _≤_}
 use mathlib.Core.Path.{_≡_, refl}
 use lib.ListN.{length}
