@@ -1,4 +1,4 @@
--- A turn is a stride and a step; a run is its turns.
+-- A stride and the step after it; and a run, which is as many of these as it takes.
 use Prim.Native.Nat.{ℕ, zero, suc, _+_, _-_, _≤_, _<_}
 use mathlib.Core.Path.{_≡_, refl, sym, ap, _∙_}
 use mathlib.Core.Bool.{false}
@@ -20,7 +20,7 @@ use Rattle.rules.proofs.Laws.{step-collecting, unless-refused}
 use Rattle.strides.specs.Leads.{lasted, more, Passes, Room, Leads}
 use Rattle.strides.proofs.Steady.{count, Kept, kept, steps-below, passes-again, now-spoilt}
 use Rattle.strides.proofs.Strides.{step-is, done-on}
-use Rattle.batch.specs.Turns.{Turn}
+use Rattle.batch.specs.StrideAndStep.{StrideAndStep}
 
 pub ready : (l k c : List ℕ) (y : Record) → Passes (state l k c y)
     → (Good (length l) (length k) (length c) y) × (Inside (y .m) (y .r) (y .phase))
@@ -39,19 +39,19 @@ refused-at : (s : State) (o : Outcome) (n e : ℕ) (a : Answer) → o ≡ step c
 unfolding more
 refused-at s o n e a w z = rw (← w) (sym (pick-no _ _ _ _ (eq-no _ _ z) refl))
 
-pub turned : (b : ℕ) (s t : State) (d : ℕ) (o : Outcome) → b
+pub stepped : (b : ℕ) (s t : State) (d : ℕ) (o : Outcome) → b
     ≡ bound (count s) (s .rec .m) (s .rec .r) → Leads s d t → count t ≡ count s → o
     ≡ phaseStep t (t .rec .phase)
-    → Turn b s d (o .answer) (o .state)
-turned b s t d o q p j w =
+    → StrideAndStep b s d (o .answer) (o .state)
+stepped b s t d o q p j w =
     let k : Kept t o = rw w (kept t (p .passes .code)) in
     let v = w ∙ step-is t (p .passes) in
     let u : b ≡ bound (count t) (t .rec .m) (t .rec .r) = rw (p .m, p .r, j) q in
     record {
       m = k .rec .m ∙ p .m;
       r = k .rec .r ∙ p .r;
-      goes = λ f n e a. p .same n e a ∙ done-on t o n (e + d) a v f;
-      stops =
+      done = λ f n e a. p .same n e a ∙ done-on t o n (e + d) a v f;
+      refused =
           λ f n e a. p .same n e a ∙ refused-at t o n (e + d) a v f
           ∙ ap (lasted (e + d) (o .answer)) (sym (rw (← v) at (refused-stays t collecting) f));
       passes = λ f. record { code = passes-again t (p .passes .code) o k (rw (← u) f) };
@@ -76,15 +76,15 @@ spoilt-run s h zero e a r f g = rw (g (omega arith))
 spoilt-run s h (suc n) e a r f g = rw (f (omega arith))
     (sym (refused-at s (refuse s 2 0) n e a (bad-step 2 s h (λ z. omega arith)) (λ z. omega arith)))
 
-module _ (b : ℕ) (s : State) (d : ℕ) (a : Answer) (t : State) (p : Turn b s d a t) where
-  pub stopped : (n e : ℕ) (a₀ : Answer) → d < n → (codeOf a ≡ 0 → ⊥) → lasted (e + d) a t
+module _ (b : ℕ) (s : State) (d : ℕ) (a : Answer) (t : State) (p : StrideAndStep b s d a t) where
+  pub refused-end : (n e : ℕ) (a₀ : Answer) → d < n → (codeOf a ≡ 0 → ⊥) → lasted (e + d) a t
       ≡ more n e a₀ s
-  stopped n e a₀ h f =
-      let z : n ≡ d + suc (n - d - 1) = omega arith in rw z (sym (p .stops f (n - d - 1) e a₀))
+  refused-end n e a₀ h f =
+      let z : n ≡ d + suc (n - d - 1) = omega arith in rw z (sym (p .refused f (n - d - 1) e a₀))
 
   pub gone-on : (n e k : ℕ) (a₀ : Answer) → n ≡ d + suc k → codeOf a ≡ 0 → more n e a₀ s
       ≡ more k (e + d + 1) a t
-  gone-on n e k a₀ h f = rw h (p .goes f k e a₀)
+  gone-on n e k a₀ h f = rw h (p .done f k e a₀)
 
   pub spoilt-end : false ≡ cycleOk (t .rec) b → codeOf a ≡ 0 → (n e : ℕ) (a₀ r : Answer) → d < n - e
       → (e + d + 1 < n → r ≡ Refused 2 0)

@@ -12,7 +12,7 @@ ghost use Rattle.rules.specs.Schedules.{schedule, collects};
 ghost use Rattle.rules.specs.declared.Answer.the-variants.{Named, Refused};
 ghost use Rattle.strides.specs.Leads.{lasted, more, Passes, Room, Leads};
 ghost use Rattle.batch.specs.Last.{many, lastAnswer};
-ghost use Rattle.batch.specs.Turns.{Turn};
+ghost use Rattle.batch.specs.StrideAndStep.{StrideAndStep};
 ghost use Rattle.base.specs.Lent.{is};
 ghost use Rattle.rules.specs.Lent.{given};
 
@@ -46,7 +46,7 @@ fn stride(left: &mut [u16], right: &mut [u16], colour: &mut [u8], x: Record, cap
 }
 
 // At most most steps at once, and then one.
-fn turn(
+fn stride_and_step(
     left: &mut [u16],
     right: &mut [u16],
     colour: &mut [u8],
@@ -56,8 +56,8 @@ fn turn(
 ) -> Many
     requires { ⌜ Passes (state (now left) (now right) (now colour) x) ⌝ }
     requires { ⌜ b ≡ bound 2 (x .m) (x .r) ⌝ }
-    ensures { λ r. ⌜ (r .done ≤ most) × Turn b (given left right colour x) (r .done) (r .answer)
-        (state (is left) (is right) (is colour) (r .rec)) ⌝ }
+    ensures { λ r. ⌜ (r .done ≤ most) × StrideAndStep b (given left right colour x) (r .done)
+        (r .answer) (state (is left) (is right) (is colour) (r .rec)) ⌝ }
 {
     let near = b - 1 - x.steps;
     let l = stride(left, right, colour, x, strides::least(most, near as usize));
@@ -85,7 +85,7 @@ fn ended(done: usize, n: usize, a: Answer) -> Answer
 }
 
 // n steps, from a record that passes.
-fn turns(
+fn all_steps(
     left: &mut [u16],
     right: &mut [u16],
     colour: &mut [u8],
@@ -102,7 +102,7 @@ fn turns(
     let mut answer = Answer::Named(0);
     let mut done = 0;
     while done < n {
-        let gone = turn(left, right, colour, rec, b, n - done - 1);
+        let gone = stride_and_step(left, right, colour, rec, b, n - done - 1);
         rec = gone.rec;
         answer = gone.answer;
         done += gone.done;
@@ -141,5 +141,5 @@ pub fn collect_many(
             rec: x,
         };
     }
-    turns(left, right, colour, x, rules::bound(x.m, x.r), n)
+    all_steps(left, right, colour, x, rules::bound(x.m, x.r), n)
 }

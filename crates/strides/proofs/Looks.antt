@@ -13,7 +13,7 @@ use Rattle.rules.specs.Records.{withPhase, withSteps, moved, next}
 use Rattle.rules.specs.Check.{bound}
 use Rattle.rules.specs.Collector.{scanStep, phaseStep}
 use Rattle.rules.proofs.Good.{good, inside}
-use Rattle.skim.specs.Stirs.{stop, Calm}
+use Rattle.skim.specs.Stops.{stop, NoStop}
 use Rattle.skim.proofs.Counts.{still}
 use Rattle.strides.specs.Leads.{Passes, Leads}
 use Rattle.strides.proofs.Strides.{stay, then, step-on}
@@ -49,7 +49,7 @@ module _ (l r c : List ℕ) (x : Record) (i k : ℕ) (p : Passes (state l r c x)
       let s : x .steps + d + 1 ≡ x .steps + suc d = omega arith in
       rw (mod-add-mod, a, b, s)
 
-  pub looks : (d : ℕ) → d < k → x .steps + d < bound 2 (x .m) (x .r) → Calm c (x .m) i d
+  pub looks : (d : ℕ) → d < k → x .steps + d < bound 2 (x .m) (x .r) → NoStop c (x .m) i d
       → Leads (state l r c x) d (state l r c (leapt x i k d))
   looks zero q b m = rw leapt-none (stay _ 0 refl p)
   looks (suc d) q b m =

@@ -18,7 +18,7 @@ use Rattle.rules.specs.Records.{withSteps, moved, rescan}
 use Rattle.rules.specs.Check.{bound}
 use Rattle.rules.specs.Collector.{shadeStep, scanStep, edgeStep, blackStep, phaseStep}
 use Rattle.rules.proofs.Good.{good}
-use Rattle.strides.specs.Leads.{Passes, Leads, Fit}
+use Rattle.strides.specs.Leads.{Passes, Leads, CanShade}
 use Rattle.strides.proofs.Strides.{then, step-on}
 
 -- the record after the visit of node i
@@ -31,31 +31,32 @@ unfolding phaseStep scanStep
 look-gray s i k h =
     pick-no _ _ _ _ (lt-no 2 (colourOf s i) (omega arith)) (pick-yes _ _ _ _ (eq-yes _ _ h) refl)
 
-edge-on : (s : State) (i e : ℕ) (p : Phase) → Fit (s .rec .m) (s .colour) e
+edge-on : (s : State) (i e : ℕ) (p : Phase) → CanShade (s .rec .m) (s .colour) e
     → did (Shaded e) (shade s e) (moved (s .rec) p) ≡ edgeStep s i e p
 unfolding edgeStep shadeStep badEdge
 edge-on s i e p f =
     pick-no _ _ _ _ (or-skip _ _ _ (le-no _ _ (f .below)) (eq-no _ _ (f .not-free)))
-    (pick-no _ _ _ _ (lt-no _ _ (f .known)) refl)
+    (pick-no _ _ _ _ (lt-no _ _ (f .colour)) refl)
 
 -- shading a node leaves good colours good
-still-fit : (m : ℕ) (c : List ℕ) (e f : ℕ) → e < length c → Fit m c f → Fit m (shadeIn c e) f
+still-can-shade : (m : ℕ) (c : List ℕ) (e f : ℕ) → e < length c → CanShade m c f
+    → CanShade m (shadeIn c e) f
 unfolding shadeIn
-still-fit m c e f v h = record {
+still-can-shade m c e f v h = record {
   below =
       h .below;
   not-free = h .not-free;
-  known = split (λ (a : List ℕ). getD a f 0 ≤ 2) _ _ _
-      (λ q. go (eqb e f) refl) (λ q. h .known);
+  colour = split (λ (a : List ℕ). getD a f 0 ≤ 2) _ _ _
+      (λ q. go (eqb e f) refl) (λ q. h .colour);
 }
   where
     go : (b : Bool) → eqb e f ≡ b → getD (set c e 1) f 0 ≤ 2
     go true q = let z = eqb-true e f q in rw (← z, getD-set-same c e 1 0 v) (omega arith)
-    go false q = rw (getD-set-other c e f 1 0 (λ z. eqb-false e f q (sym z))) (h .known)
+    go false q = rw (getD-set-other c e f 1 0 (λ z. eqb-false e f q (sym z))) (h .colour)
 
 module _ (l r c : List ℕ) (x : Record) (i k : ℕ) (p : Passes (state l r c x))
     (h : x .phase ≡ Scan i k) where
-  pub visits : getD c i 0 ≡ 1 → Fit (x .m) c (getD l i 0) → Fit (x .m) c (getD r i 0)
+  pub visits : getD c i 0 ≡ 1 → CanShade (x .m) c (getD l i 0) → CanShade (x .m) c (getD r i 0)
       → x .steps + 4 < bound 2 (x .m) (x .r) → x .blackened < x .m
       → Leads (state l r c x) 4 (state l r (set (shadeIn (shadeIn c (getD l i 0)) (getD r i 0)) i 2)
       (visited x i))
@@ -79,7 +80,7 @@ module _ (l r c : List ℕ) (x : Record) (i k : ℕ) (p : Passes (state l r c x)
       let a3 =
       step-on (state l r c1 y2) _ (a2 .passes)
       (edge-on (state l r c1 y2) i f (Black i)
-      (still-fit _ c e f (omega (arith, g, left)) right)) refl (g .blackened) (omega arith)
+      (still-can-shade _ c e f (omega (arith, g, left)) right)) refl (g .blackened) (omega arith)
       in
       let a4 =
       step-on (state l r c2 y3) (did (Blackened i) (state l r (set c2 i 2) y3) (rescan y3 i))

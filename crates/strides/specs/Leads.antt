@@ -44,7 +44,7 @@ pub record Leads (s : State) (d : ℕ) (t : State) : Type 0 where
   pub same : (n e : ℕ) (a : Answer) → more (d + suc n) e a s ≡ more (suc n) (e + d) a t
 
 -- a good edge to a node with a good colour
-pub record Fit (m : ℕ) (c : List ℕ) (e : ℕ) : Type 0 where
+pub record CanShade (m : ℕ) (c : List ℕ) (e : ℕ) : Type 0 where
   pub below : e < m
   pub not-free : e ≡ 1 → ⊥
-  pub known : getD c e 0 ≤ 2
+  pub colour : getD c e 0 ≤ 2

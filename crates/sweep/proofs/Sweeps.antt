@@ -11,8 +11,8 @@ use Rattle.rules.proofs.Good.{good, inside}
 use Rattle.strides.specs.Leads.{Passes, Room, Leads}
 use Rattle.strides.proofs.Strides.{stay, then}
 use Rattle.strides.proofs.Sweeps as strides
-use Rattle.sweep.specs.declared.Row.{Row}
-use Rattle.sweep.specs.Rows.{rooted, Shades, swept}
+use Rattle.sweep.specs.declared.AppendAt.{AppendAt}
+use Rattle.sweep.specs.Sweeping.{rooted, Shades, swept}
 
 rooted-none : (x : Record) (i : ℕ) → x .phase ≡ Roots i → rooted x i 0 ≡ x
 unfolding rooted
@@ -38,8 +38,8 @@ shades-more c c′ i cap d w q v =
           (omega arith) v));
     }
 
--- what a row that passes tells
-pub record At (ll rl cl : ℕ) (x : Record) (s : Row) : Type 0 where
+-- what a position whose record passes tells
+pub record At (ll rl cl : ℕ) (x : Record) (s : AppendAt) : Type 0 where
   pub i : s .i < x .m
   pub last : s .last < x .m
   pub high : x .m ≤ 4096
@@ -48,7 +48,7 @@ pub record At (ll rl cl : ℕ) (x : Record) (s : Row) : Type 0 where
   pub rights : rl ≡ x .m
   pub colours : cl ≡ x .m
 
-pub at : (l k c : List ℕ) (x : Record) (s : Row) → Passes (state l k c (swept x s))
+pub at : (l k c : List ℕ) (x : Record) (s : AppendAt) → Passes (state l k c (swept x s))
     → At (length l) (length k) (length c) x s
 unfolding swept
 at l k c x s p =
@@ -66,7 +66,7 @@ at l k c x s p =
       colours = g .colours;
     }
 
--- the row that stands for x
+-- the position that stands for x
 start : (x : Record) (i : ℕ) → x .phase ≡ Append i
     → swept x (record { i = i; last = x .last; d = 0 }) ≡ x
 unfolding swept
@@ -81,13 +81,13 @@ pub ends : (l k c : List ℕ) (t : State) (x : Record) (i d : ℕ) → x .phase 
     → Leads (state l k c x) d t
 ends l k c t x i d h w = let z : d - 0 ≡ d = omega arith in rw (z, start x i h) at w
 
-module _ (l k c : List ℕ) (x : Record) (s : Row) (p : Passes (state l k c (swept x s))) where
+module _ (l k c : List ℕ) (x : Record) (s : AppendAt) (p : Passes (state l k c (swept x s))) where
   -- no step
   pub stays : (n : ℕ) → s .d ≤ n → (s .d ≤ n) ×
       ((s .d ≤ s .d) × Leads (state l k c (swept x s)) (s .d - s .d) (state l k c (swept x s)))
   stays n h = (h, (omega arith, stay _ _ (omega arith) p))
 
-  module _ (r : Row) (b : Room x (s .d + 1)) (q : s .i + 1 < x .m) (i : r .i ≡ s .i + 1)
+  module _ (r : AppendAt) (b : Room x (s .d + 1)) (q : s .i + 1 < x .m) (i : r .i ≡ s .i + 1)
       (d : r .d ≡ s .d + 1) where
     pub whitens : r .last ≡ s .last → getD c (s .i) 0 ≡ 2
         → Leads (state l k c (swept x s)) (r .d - s .d) (state l k (set c (s .i) 0) (swept x r))

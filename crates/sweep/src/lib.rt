@@ -8,12 +8,12 @@ ghost use lib.ListN.{length, getD};
 ghost use Rattle.rules.specs.Table.{state};
 ghost use Rattle.rules.specs.declared.Phase.the-variants.{Roots, Append};
 ghost use Rattle.strides.specs.Leads.{Passes, Room, Leads};
-ghost use Rattle.sweep.specs.Rows.{rooted, Shades, swept};
+ghost use Rattle.sweep.specs.Sweeping.{rooted, Shades, swept};
 ghost use Rattle.base.specs.Lent.{was, is};
 ghost use Rattle.rules.specs.Lent.{given};
 
 // Where the appending stands: Append i, the end of the free list, and the steps made here.
-struct Row {
+struct AppendAt {
     i: usize,
     last: usize,
     d: usize,
@@ -45,7 +45,7 @@ fn rooted(mut x: Record, i: usize, d: usize) -> Record
     x.with_phase(Phase::Roots((i + d) as u16))
 }
 
-fn swept(mut x: Record, s: Row) -> Record
+fn swept(mut x: Record, s: AppendAt) -> Record
     requires { ⌜ s .i < 4096 ⌝ }
     requires { ⌜ s .last < 4096 ⌝ }
     requires { ⌜ x .steps + s .d < 20000000 ⌝ }
@@ -74,7 +74,13 @@ pub fn roots(left: &[u16], right: &[u16], colour: &mut [u8], x: Record, i: u16, 
 }
 
 // A white node i goes to the end of the free list; s where that is refused.
-fn append_white(left: &mut [u16], right: &mut [u16], colour: &[u8], x: Record, s: Row) -> Row
+fn append_white(
+    left: &mut [u16],
+    right: &mut [u16],
+    colour: &[u8],
+    x: Record,
+    s: AppendAt,
+) -> AppendAt
     requires { ⌜ Passes (state (now left) (now right) (now colour) (swept x s)) ⌝ }
     requires { ⌜ Room x (s .d + 1) ⌝ }
     requires { ⌜ s .i + 1 < x .m ⌝ }
@@ -94,7 +100,7 @@ fn append_white(left: &mut [u16], right: &mut [u16], colour: &[u8], x: Record, s
     left[i] = 0;
     right[i] = 0;
     left[last] = i as u16;
-    Row {
+    AppendAt {
         i: i + 1,
         last: i,
         d: s.d + 1,
@@ -102,7 +108,13 @@ fn append_white(left: &mut [u16], right: &mut [u16], colour: &[u8], x: Record, s
 }
 
 // One step of Append; s where it is refused, or where it is the last node's.
-fn append_one(left: &mut [u16], right: &mut [u16], colour: &mut [u8], x: Record, s: Row) -> Row
+fn append_one(
+    left: &mut [u16],
+    right: &mut [u16],
+    colour: &mut [u8],
+    x: Record,
+    s: AppendAt,
+) -> AppendAt
     requires { ⌜ Passes (state (now left) (now right) (now colour) (swept x s)) ⌝ }
     requires { ⌜ Room x (s .d + 1) ⌝ }
     ensures { λ r. ⌜ (r .d ≤ s .d + 1) ×
@@ -115,7 +127,7 @@ fn append_one(left: &mut [u16], right: &mut [u16], colour: &mut [u8], x: Record,
     }
     if colour[i] == 2 {
         colour[i] = 0;
-        return Row {
+        return AppendAt {
             i: i + 1,
             last: s.last,
             d: s.d + 1,
@@ -133,13 +145,14 @@ fn appending(
     colour: &mut [u8],
     x: Record,
     cap: usize,
-    from: Row,
-) -> Row
+    from: AppendAt,
+) -> AppendAt
     requires { ⌜ Passes (state (now left) (now right) (now colour) (swept x from)) ⌝ }
     requires { ⌜ Room x cap ⌝ }
     requires { ⌜ from .d ≤ cap ⌝ }
     ensures { λ r. ⌜ (r .d ≤ cap) × ((from .d ≤ r .d)
-        × Leads (given left right colour (swept x from)) (r .d - from .d) (state (is left) (is right) (is colour) (swept x r))) ⌝ }
+        × Leads (given left right colour (swept x from)) (r .d - from .d)
+        (state (is left) (is right) (is colour) (swept x r))) ⌝ }
 {
     let mut s = from;
     while s.d < cap {
@@ -167,7 +180,7 @@ pub fn appends(
     ensures { λ r. ⌜ (r .d ≤ cap) × Leads (given left right colour x) (r .d)
         (state (is left) (is right) (is colour) (r .rec)) ⌝ }
 {
-    let from = Row {
+    let from = AppendAt {
         i: i as usize,
         last: x.last as usize,
         d: 0,

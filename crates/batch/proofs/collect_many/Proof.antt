@@ -20,8 +20,8 @@ bound-requires c κs = let g =
     good _ _ _ _ (sym (c .before .before .before .if1 .left)
     ∙ c .before .before .before .before .check .ensures) in omega arith
 
-turns-requires : tie.Need-turns-requires
-turns-requires c κs = (
+all-steps-requires : tie.Need-all-steps-requires
+all-steps-requires c κs = (
   record {
     code = sym (c .before .before .before .before .if1 .left)
         ∙ c .before .before .before .before .before .check .ensures;
@@ -40,11 +40,11 @@ same-length-3 c = search needs
 
 returns-2 : tie.Need-returns-2
 returns-2 c =
-    let at-turns = c .before .before .before .before .before .before in
-    let at-if1 = at-turns .before .before .before .before .before in
+    let at-all-steps = c .before .before .before .before .before .before in
+    let at-if1 = at-all-steps .before .before .before .before .before in
     let at-check = at-if1 .before in
     scheduled _ _ _ _ _ (record { code = sym (at-if1 .if1 .left) ∙ at-check .check .ensures })
-    (at-turns .turns .ensures)
+    (at-all-steps .all-steps .ensures)
 
 pub collect-many-spec : {M : Type 1} → statement M
 collect-many-spec =
@@ -53,7 +53,7 @@ collect-many-spec =
     check-requires
     returns
     bound-requires
-    turns-requires
+    all-steps-requires
     same-length
     same-length-2
     same-length-3

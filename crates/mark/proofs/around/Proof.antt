@@ -3,7 +3,7 @@
 use mathlib.Core.Path.{sym}
 use native.Mathlib.Omega.{arith}
 use native.Mathlib.Nat.{mod-eq-of-lt}
-use Rattle.skim.proofs.Calms.{round}
+use Rattle.skim.proofs.NoStops.{round}
 use Rattle.mark.proofs.around.Statement.{statement}
 use Rattle.mark.proofs.around.Tie as tie
 

@@ -1,6 +1,6 @@
 -- The fields that change are stored to, and the phase is set last: what stands in the definition.
 use borrow.Author.Needs.{needs}
-use Rattle.mark.specs.Spots.{standing}
+use Rattle.mark.specs.Marking.{standing}
 use Rattle.mark.proofs.standing.Statement.{statement}
 use Rattle.mark.proofs.standing.Tie as tie
 

@@ -1,6 +1,6 @@
 -- `visit` meets its contract: `spread` leaves the colours that the four steps at a gray node leave,
--- and the spot is moved as they move the record. The node itself is one of the stops counted, so
--- the count less one stays high enough.
+-- and the position is moved as they move the record. The node itself is one of the stops counted,
+-- so the count less one stays high enough.
 use mathlib.Core.Path.{refl}
 use native.Mathlib.Omega.{arith}
 use borrow.Author.Needs.{needs}

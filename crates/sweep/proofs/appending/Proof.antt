@@ -8,7 +8,7 @@ use native.Mathlib.Omega.{arith}
 use Rattle.rules.specs.Table.{state}
 use Rattle.strides.specs.Leads.{Leads}
 use Rattle.strides.proofs.Strides.{stay, on, fewer}
-use Rattle.sweep.specs.Rows.{swept}
+use Rattle.sweep.specs.Sweeping.{swept}
 use Rattle.sweep.proofs.appending.Statement.{statement}
 use Rattle.sweep.proofs.appending.Tie as tie
 

@@ -1,8 +1,8 @@
--- `appends` meets its contract: the row that the loop starts from stands for the record itself, and
--- the record of the row at the end is where its steps lead.
+-- `appends` meets its contract: the position that the loop starts from stands for the record
+-- itself, and the record of the position at the end is where its steps lead.
 use native.Mathlib.Omega.{arith}
 use borrow.Author.Needs.{needs}
-use Rattle.sweep.specs.Rows.{swept}
+use Rattle.sweep.specs.Sweeping.{swept}
 use Rattle.sweep.proofs.Sweeps.{at, begins, ends}
 use Rattle.sweep.proofs.appends.Statement.{statement}
 use Rattle.sweep.proofs.appends.Tie as tie

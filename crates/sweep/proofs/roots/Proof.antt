@@ -4,7 +4,7 @@ use native.Mathlib.Omega.{arith}
 use borrow.Author.Needs.{needs}
 use Rattle.rules.proofs.Good.{good, inside}
 use Rattle.strides.proofs.Strides.{fewer, small}
-use Rattle.sweep.specs.Rows.{rooted}
+use Rattle.sweep.specs.Sweeping.{rooted}
 use Rattle.sweep.proofs.Sweeps.{at}
 use Rattle.sweep.proofs.roots.Statement.{statement}
 use Rattle.sweep.proofs.roots.Tie as tie

@@ -5,7 +5,7 @@ use mathlib.Core.Path.{_≡_, refl}
 use lib.ListN.{length}
 use native.Mathlib.Omega.{arith}
 use borrow.Author.Needs.{needs}
-use Rattle.sweep.specs.Rows.{Shades}
+use Rattle.sweep.specs.Sweeping.{Shades}
 use Rattle.sweep.proofs.Sweeps.{shades-none, shades-more}
 use Rattle.sweep.proofs.shading.Statement.{statement}
 use Rattle.sweep.proofs.shading.Tie as tie

@@ -1,6 +1,6 @@
 -- The fields that change are stored to, and the phase is set last: what stands in the definition.
 use borrow.Author.Needs.{needs}
-use Rattle.sweep.specs.Rows.{swept}
+use Rattle.sweep.specs.Sweeping.{swept}
 use Rattle.sweep.proofs.swept.Statement.{statement}
 use Rattle.sweep.proofs.swept.Tie as tie
 
