@@ -11,7 +11,11 @@ use Rattle.jenturik_c.specs.Face.{Faced, faced, face}
 use Rattle.jenturik_c.specs.Runs.{FacedRun, facedRun, faceRun, lastTold}
 use Rattle.jenturik_c.specs.declared.Told.{Told}
 
--- what it tells, and the slices and the words as they are: as they were, where it does not write
+-- what a call does not write: it is what it was
+abbrev pub kept : Slice → Slice
+kept lent = record { entry = lent .entry; exit = lent .entry }
+
+-- what it tells, and the slices and the words as they are
 abbrev pub tells : Told → Slice → Slice → Slice → Slice → Faced
 tells t left right colour words = faced t (is left) (is right) (is colour) (is words)
 

@@ -18,7 +18,8 @@ ghost use Rattle.jenturik_c.specs.Face.{whatOf, toldOf, noRecord, shown,
 ghost use Rattle.jenturik_c.specs.Flat.{STEP_WORDS, zeros, kindAt, ofKind, stepAt, stepsOf};
 ghost use Rattle.jenturik_c.specs.Flat.{scheduleOf};
 ghost use Rattle.jenturik_c.specs.Runs.{lastOf};
-ghost use Rattle.jenturik_c.specs.Lent.{tells, facing, runs, facingRun, facingLast, Stays};
+ghost use Rattle.jenturik_c.specs.Lent.{kept, tells, facing, runs, facingRun};
+ghost use Rattle.jenturik_c.specs.Lent.{facingLast, Stays};
 ghost use Rattle.base.specs.Lent.{was, is};
 ghost use Rattle.rules.specs.Lent.{given};
 
@@ -143,7 +144,7 @@ pub extern "C" fn jenturik_look(
     count: u32,
     word: u32,
 ) -> Told
-    ensures { λ t. ⌜ tells t left right colour words
+    ensures { λ t. ⌜ tells t (kept left) (kept right) (kept colour) (kept words)
         ≡ facing (step (looking (placeOf slot count word))) left right colour words ⌝ }
 {
     let w = *words;
@@ -171,7 +172,7 @@ pub extern "C" fn jenturik_link(
     tocount: u32,
     toword: u32,
 ) -> Told
-    ensures { λ t. ⌜ tells t left right colour words
+    ensures { λ t. ⌜ tells t left right (kept colour) words
         ≡ facing (step (linking (placeOf slot count word) side (placeOf toslot tocount toword)))
         left right colour words ⌝ }
     ensures { λ t. ⌜ Stays words ⌝ }
@@ -202,7 +203,7 @@ pub extern "C" fn jenturik_shade(
     colour: &mut [u8],
     words: &mut [u32; words::WORDS],
 ) -> Told
-    ensures { λ t. ⌜ tells t left right colour words
+    ensures { λ t. ⌜ tells t (kept left) (kept right) colour words
         ≡ facing (step shading) left right colour words ⌝ }
     ensures { λ t. ⌜ Stays words ⌝ }
 {

@@ -64,7 +64,7 @@ pub c-many-determined : (κs : _) (a : _) (r r′ : _) (s s′ : _)
     ≡ facedRun (r′ .done) (r′ .code)
     (now (s′ .0)) (now (s′ .1 .0)) (now (s′ .1 .1 .0)) (now (s′ .1 .1 .1 .0)))
     × (lastOf r ≡ lastOf r′)
-c-many-determined κs a r r′ s s′ p q = (determined (p .0) (q .0), determined (p .1) (q .1))
+c-many-determined κs a r r′ s s′ p q = (determined (p .0) (q .0), determined (p .1 .0) (q .1 .0))
 
 pub c-schedule-determined : (κs : _) (a : _) (r r′ : _) (s s′ : _)
     → c-schedule.Learnt κs a r s → c-schedule.Learnt κs a r′ s′
