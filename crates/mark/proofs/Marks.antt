@@ -15,7 +15,7 @@ use Rattle.rules.proofs.Good.{good, inside}
 use Rattle.skim.specs.Stops.{stop, stops, NoStop}
 use Rattle.skim.proofs.Counts.{changed, counts}
 use Rattle.strides.specs.Leads.{Passes, Room, Leads}
-use Rattle.strides.proofs.Strides.{stay, on}
+use Rattle.strides.proofs.Strides.{Sized, sized, stay, on}
 use Rattle.strides.proofs.Looks.{looks}
 use Rattle.strides.proofs.Visits as strides
 use Rattle.mark.specs.declared.ScanAt.{ScanAt}
@@ -28,11 +28,7 @@ pub record At (ll rl cl : ℕ) (x : Record) (s : ScanAt) : Type 0 where
   pub high : s .k ≤ x .m
   pub blackened : s .blackened ≤ x .m
   pub steps : x .steps + s .d < 20000000
-  pub m-low : 3 ≤ x .m
-  pub m-high : x .m ≤ 4096
-  pub lefts : ll ≡ x .m
-  pub rights : rl ≡ x .m
-  pub colours : cl ≡ x .m
+  pub sizes : Sized (x .m) ll rl cl
 
 pub at : (l k c : List ℕ) (x : Record) (s : ScanAt) → Passes (state l k c (standing x s))
     → At (length l) (length k) (length c) x s
@@ -47,12 +43,7 @@ at l k c x s p =
       high = h .1 .1;
       blackened = g .blackened;
       steps = g .steps;
-      m-low =
-          g .m-low;
-      m-high = g .m-high;
-      lefts = g .lefts;
-      rights = g .rights;
-      colours = g .colours;
+      sizes = sized l k c (standing x s) p;
     }
 
 -- no step
@@ -165,10 +156,11 @@ module _ (l k c : List ℕ) (x : Record) (cap : ℕ) (s : ScanAt) (p : Valid l k
       let y = w .room in
       let t : r .d - s .d ≡ 4 = omega arith in
       let o : x .steps + (s .d + 4) ≡ x .steps + s .d + 4 = omega arith in
-      let v = rw (len, g .colours) at f in
+      let v = rw (len, g .sizes .colours) at f in
       let a : Leads (state l k c (standing x s)) (r .d - s .d) (state l k c′ (standing x r)) =
       rw (t, i′, k′, blackened′, d′, o, e)
-      (strides.visits l k c (standing x s) (s .i) (s .k) (p .passes) refl (w .gray) (w .left) (w .right) (omega arith) (w .blackened)) in
+      (strides.visits l k c (standing x s) (s .i) (s .k) (p .passes) refl (w .gray) (w .left)
+      (w .right) (omega arith) (w .blackened)) in
       record {
         low = omega arith;
         leads = a;
@@ -195,7 +187,7 @@ module _ (x : Record) (i k n : ℕ) (h : x .phase ≡ Scan i k) where
   pub begins : (l r c : List ℕ) (cap : ℕ) → Passes (state l r c x) → stops c 0 (length c) ≤ n
       → n ≤ length c → Valid l r c x cap first
   begins l r c cap p f m =
-      let g = good _ _ _ x (p .code) in
+      let g = sized l r c x p in
       record {
         passes =
             rw start p;

@@ -1,19 +1,41 @@
 -- Steps put together to strides.
 use Prim.Native.Nat.{ℕ, suc, _+_, _-_, _≤_, _<_}
 use mathlib.Core.Path.{_≡_, refl, sym, _∙_}
+use mathlib.Core.List.{List}
+use lib.ListN.{length}
 use native.Mathlib.Omega.{arith}
 use Rattle.base.proofs.Tests.{pick-yes, eq-yes, lt-yes, le-yes, every-skip, every-none, each, facts}
 use Rattle.rules.specs.declared.Record.{Record}
 use Rattle.rules.specs.declared.Answer.{Answer}
-use Rattle.rules.specs.Table.{State, Outcome}
+use Rattle.rules.specs.Table.{State, Outcome, state}
 use Rattle.rules.specs.Check.{sizeOk, bound, cycleOk}
 use Rattle.rules.specs.Collector.{phaseStep, collect}
 use Rattle.rules.specs.Steps.{step, collecting, codeOf}
-use Rattle.rules.proofs.Good.{passes}
+use Rattle.rules.proofs.Good.{passes, good}
 use Rattle.rules.proofs.Sizes.{square}
 use Rattle.rules.proofs.Laws.{step-collecting, unless-done}
 use Rattle.strides.specs.Leads.{more, Passes, Room, Leads}
 use Rattle.strides.proofs.Steady.{count, Kept, kept, passes-again}
+
+-- M, and the lengths of the three slices, which are M
+pub record Sized (m ll rl cl : ℕ) : Type 0 where
+  pub low : 3 ≤ m
+  pub high : m ≤ 4096
+  pub lefts : ll ≡ m
+  pub rights : rl ≡ m
+  pub colours : cl ≡ m
+
+pub sized : (l k c : List ℕ) (x : Record) → Passes (state l k c x)
+    → Sized (x .m) (length l) (length k) (length c)
+sized l k c x p =
+    let g = good _ _ _ x (p .code) in
+    record {
+      low = g .m-low;
+      high = g .m-high;
+      lefts = g .lefts;
+      rights = g .rights;
+      colours = g .colours;
+    }
 
 -- no step
 pub stay : (s : State) (d : ℕ) → d ≡ 0 → Passes s → Leads s d s

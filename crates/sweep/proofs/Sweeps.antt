@@ -9,7 +9,7 @@ use Rattle.rules.specs.declared.Phase.the-variants.{Roots, Append}
 use Rattle.rules.specs.Table.{State, state, shadeIn}
 use Rattle.rules.proofs.Good.{good, inside}
 use Rattle.strides.specs.Leads.{Passes, Room, Leads}
-use Rattle.strides.proofs.Strides.{stay, then}
+use Rattle.strides.proofs.Strides.{Sized, sized, stay, then}
 use Rattle.strides.proofs.Sweeps as strides
 use Rattle.sweep.specs.declared.AppendAt.{AppendAt}
 use Rattle.sweep.specs.Sweeping.{rooted, Shades, swept}
@@ -38,15 +38,24 @@ shades-more c c′ i cap d w q v =
           (omega arith) v));
     }
 
+-- what a record that passes tells at Roots i
+pub record AtRoots (ll rl cl : ℕ) (x : Record) (i : ℕ) : Type 0 where
+  pub root : i ≤ x .r + 1
+  pub room : x .r + 2 ≤ x .m
+  pub sizes : Sized (x .m) ll rl cl
+
+pub at-roots : (l k c : List ℕ) (x : Record) (i : ℕ) → Passes (state l k c x) → x .phase ≡ Roots i
+    → AtRoots (length l) (length k) (length c) x i
+at-roots l k c x i p h =
+    let g = good _ _ _ x (p .code) in
+    record { root = rw h at (inside _ _ x (p .code)); room = g .room; sizes = sized l k c x p }
+
 -- what a position whose record passes tells
 pub record At (ll rl cl : ℕ) (x : Record) (s : AppendAt) : Type 0 where
   pub i : s .i < x .m
   pub last : s .last < x .m
-  pub high : x .m ≤ 4096
   pub steps : x .steps + s .d < 20000000
-  pub lefts : ll ≡ x .m
-  pub rights : rl ≡ x .m
-  pub colours : cl ≡ x .m
+  pub sizes : Sized (x .m) ll rl cl
 
 pub at : (l k c : List ℕ) (x : Record) (s : AppendAt) → Passes (state l k c (swept x s))
     → At (length l) (length k) (length c) x s
@@ -58,12 +67,8 @@ at l k c x s p =
       i =
           h;
       last = g .last-high;
-      high = g .m-high;
       steps = g .steps;
-      lefts = g .lefts;
-      rights =
-          g .rights;
-      colours = g .colours;
+      sizes = sized l k c (swept x s) p;
     }
 
 -- the position that stands for x

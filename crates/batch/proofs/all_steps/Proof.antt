@@ -114,9 +114,10 @@ loop-again c =
       omega arith,
       at-step .stride-and-step .ensures .1 .passes
           (not-no _ (c .if2 .left) ∙ c .before .cycle-ok .ensures),
-      rw
-          (at-step .stride-and-step .ensures .1 .m, at-step .stride-and-step .ensures .1 .r) (at-loop .loop .inv .5),
-      at-loop .loop .inv .6 ∙ gone-on _ _ _ _ _ (at-step .stride-and-step .ensures .1) _ _ _ _ (omega arith)
+      rw (at-step .stride-and-step .ensures .1 .m, at-step .stride-and-step .ensures .1 .r)
+          (at-loop .loop .inv .5),
+      at-loop .loop .inv .6
+          ∙ gone-on _ _ _ _ _ (at-step .stride-and-step .ensures .1) _ _ _ _ (omega arith)
           (sym (c .before .before .before .code .ensures) ∙ c .before .before .if1 .left),
     )
 

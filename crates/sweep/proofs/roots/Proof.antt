@@ -2,10 +2,9 @@
 -- all that `shading` needs for its writes to be that many steps.
 use native.Mathlib.Omega.{arith}
 use borrow.Author.Needs.{needs}
-use Rattle.rules.proofs.Good.{good, inside}
 use Rattle.strides.proofs.Strides.{fewer, small}
 use Rattle.sweep.specs.Sweeping.{rooted}
-use Rattle.sweep.proofs.Sweeps.{at}
+use Rattle.sweep.proofs.Sweeps.{at-roots}
 use Rattle.sweep.proofs.roots.Statement.{statement}
 use Rattle.sweep.proofs.roots.Tie as tie
 
@@ -16,10 +15,9 @@ add-least : tie.Need-add-least
 add-least c = search needs
 
 sub-least : tie.Need-sub-least
-sub-least c = let g =
-    good _ _ _ _ (c .before .before .before .before .pre .0 .code) in
-    let h = rw (c .before .before .before .before .pre .1 .1) at
-    (inside _ _ _ (c .before .before .before .before .pre .0 .code)) in omega arith
+sub-least c =
+    let at-entry = c .before .before .before .before in
+    let g = at-roots _ _ _ _ _ (at-entry .pre .0) (at-entry .pre .1 .1) in omega arith
 
 least-requires : tie.Need-least-requires
 least-requires c κs = search needs
@@ -27,17 +25,12 @@ least-requires c κs = search needs
 shading-requires : tie.Need-shading-requires
 shading-requires c κs =
     let at-entry = c .before .before .before .before .before .before in
-    let g =
-    good _ _ _ _ (at-entry .pre .0 .code) in
-    let h = rw (at-entry .pre .1 .1) at (inside _ _ _ (at-entry .pre .0 .code)) in
-    omega arith
+    let g = at-roots _ _ _ _ _ (at-entry .pre .0) (at-entry .pre .1 .1) in omega arith
 
 rooted-requires : tie.Need-rooted-requires
 rooted-requires c κs =
     let at-entry = c .before .before .before .before .before .before .before .before .before in
-    let g =
-    good _ _ _ _ (at-entry .pre .0 .code) in
-    let h = rw (at-entry .pre .1 .1) at (inside _ _ _ (at-entry .pre .0 .code)) in
+    let g = at-roots _ _ _ _ _ (at-entry .pre .0) (at-entry .pre .1 .1) in
     let s = small _ _ (at-entry .pre .0) (at-entry .pre .1 .0) in omega arith
 
 same-length : tie.Need-same-length
@@ -47,9 +40,7 @@ returns : tie.Need-returns
 returns c =
     let at-entry = c .before .before .before .before .before .before .before .before .before .before
     in
-    let g =
-    good _ _ _ _ (at-entry .pre .0 .code) in
-    let h = rw (at-entry .pre .1 .1) at (inside _ _ _ (at-entry .pre .0 .code)) in (
+    let g = at-roots _ _ _ _ _ (at-entry .pre .0) (at-entry .pre .1 .1) in (
       omega arith,
       rw (c .rooted .ensures)
           (c .before .before .before .shading .ensures .1 .leads _ _ _ (at-entry .pre .0)
