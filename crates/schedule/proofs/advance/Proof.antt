@@ -1,3 +1,4 @@
+-- `step` is known by its contract, and `after` makes of its answer what the definition makes.
 use borrow.Author.Needs.{needs}
 use Rattle.schedule.proofs.advance.Statement.{statement}
 use Rattle.schedule.proofs.advance.Tie as tie

@@ -1,3 +1,4 @@
+-- The code that `check` answers picks the definition's case.
 use borrow.Author.Needs.{needs}
 use Rattle.base.proofs.Tests.{pick-yes, pick-no, code-yes, code-no}
 use Rattle.schedule.specs.Stands.{begun}
