@@ -4,8 +4,8 @@ use mathlib.Core.Path.{_≡_, refl, sym, ap, _∙_}
 use borrow.Author.Tests.{eqb-true}
 use Rattle.base.proofs.Tests.{split, pick-yes, pick-no, eq-yes, eq-no}
 use Rattle.rules.specs.declared.Answer.{Answer}
-use Rattle.rules.specs.declared.Answer.the-variants.{Named, Refused}
-use Rattle.rules.specs.Table.{State}
+use Rattle.rules.specs.declared.Answer.the-variants.{Named}
+use Rattle.rules.specs.Table.{State, refused}
 use Rattle.rules.specs.Check.{check}
 use Rattle.rules.specs.Steps.{step, collecting, codeOf}
 use Rattle.rules.specs.Schedules.{followed, follow, schedule, collects}
@@ -48,7 +48,7 @@ scheduled n d a s t p w =
 
 -- from one that does not
 pub unscheduled : (n code : ℕ) (s : State) → code ≡ check s → (code ≡ 0 → ⊥)
-    → (followed 0 code s ≡ schedule (collects n) s) × (Refused code 0 ≡ lastAnswer n s)
+    → (followed 0 code s ≡ schedule (collects n) s) × (refused code 0 ≡ lastAnswer n s)
 unfolding schedule lastAnswer
 unscheduled n code s e f =
     rw (← e) (pick-no _ _ _ _ (eq-no code 0 f) refl, pick-no _ _ _ _ (eq-no code 0 f) refl)

@@ -8,8 +8,7 @@ use native.Mathlib.Omega.{arith}
 use Rattle.base.proofs.Tests.{pick-no, eq-no}
 use Rattle.rules.specs.declared.Record.{Record}
 use Rattle.rules.specs.declared.Answer.{Answer}
-use Rattle.rules.specs.declared.Answer.the-variants.{Refused}
-use Rattle.rules.specs.Table.{State, Outcome, state, refuse}
+use Rattle.rules.specs.Table.{State, Outcome, state, refused, refuse}
 use Rattle.rules.specs.Check.{bound, cycleOk, check}
 use Rattle.rules.specs.Collector.{phaseStep, collect}
 use Rattle.rules.specs.Steps.{step, collecting, codeOf}
@@ -69,7 +68,7 @@ unfolding collect
 bad-step c s e f = rw step-collecting (unless-refused _ _ _ _ e f)
 
 -- n more steps from a record with a count past its limit
-spoilt-run : (s : State) → 2 ≡ check s → (n e : ℕ) (a r : Answer) → (0 < n → r ≡ Refused 2 0)
+spoilt-run : (s : State) → 2 ≡ check s → (n e : ℕ) (a r : Answer) → (0 < n → r ≡ refused 2 0)
     → (n ≤ 0 → r ≡ a) → lasted e r s ≡ more n e a s
 unfolding more
 spoilt-run s h zero e a r f g = rw (g (omega arith))
@@ -87,7 +86,7 @@ module _ (b : ℕ) (s : State) (d : ℕ) (a : Answer) (t : State) (p : StrideAnd
   gone-on n e k a₀ h f = rw h (p .done f k e a₀)
 
   pub spoilt-end : false ≡ cycleOk (t .rec) b → codeOf a ≡ 0 → (n e : ℕ) (a₀ r : Answer) → d < n - e
-      → (e + d + 1 < n → r ≡ Refused 2 0)
+      → (e + d + 1 < n → r ≡ refused 2 0)
       → (n ≤ e + d + 1 → r ≡ a) → lasted (e + d + 1) r t ≡ more (n - e) e a₀ s
   spoilt-end h f n e a₀ r l v w =
       spoilt-run t (p .spoilt h) (n - (e + d + 1)) (e + d + 1) a r (λ q. v (omega arith))

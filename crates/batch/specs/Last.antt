@@ -3,12 +3,12 @@ use Rattle.base.specs.Choice.{pick}
 use Prim.Native.Nat.{ℕ, zero, suc}
 use mathlib.Core.List.{List}
 use lib.Dec.{eqb}
-use Rattle.rules.specs.Table.{State, state}
+use Rattle.rules.specs.Table.{State, refused, state}
 use Rattle.rules.specs.Check.{check}
 use Rattle.rules.specs.Steps.{step, collecting, codeOf}
 use Rattle.rules.specs.Schedules.{Followed, followed}
 use Rattle.rules.specs.declared.Answer.{Answer}
-use Rattle.rules.specs.declared.Answer.the-variants.{Named, Refused}
+use Rattle.rules.specs.declared.Answer.the-variants.{Named}
 use Rattle.batch.specs.declared.Many.{Many}
 
 -- what `collect_many` hands back, with the three slices as it leaves them
@@ -25,4 +25,4 @@ answering (suc n) a s =
 
 -- [Many 3] codes 1 and 2 first; for no steps the answer is `Named 0`
 unfoldable pub lastAnswer : ℕ → State → Answer
-lastAnswer n s = pick (eqb (check s) 0) (answering n (Named 0) s) (Refused (check s) 0)
+lastAnswer n s = pick (eqb (check s) 0) (answering n (Named 0) s) (refused (check s) 0)

@@ -6,10 +6,10 @@ use rules::Record;
 use strides::Ahead;
 ghost use mathlib.Core.Path.{_≡_};
 ghost use Prim.Native.Nat.{_<_, _≤_};
-ghost use Rattle.rules.specs.Table.{state};
+ghost use Rattle.rules.specs.Table.{refused, state};
 ghost use Rattle.rules.specs.Check.{bound};
 ghost use Rattle.rules.specs.Schedules.{schedule, collects};
-ghost use Rattle.rules.specs.declared.Answer.the-variants.{Named, Refused};
+ghost use Rattle.rules.specs.declared.Answer.the-variants.{Named};
 ghost use Rattle.strides.specs.Leads.{lasted, more, Passes, Room, Leads};
 ghost use Rattle.batch.specs.Last.{many, lastAnswer};
 ghost use Rattle.batch.specs.StrideAndStep.{StrideAndStep};
@@ -76,10 +76,10 @@ fn stride_and_step(
 // The answer of a run that stands at a record with a count past its limit: code 2 where a step is
 // still to be made.
 fn ended(done: usize, n: usize, a: Answer) -> Answer
-    ensures { λ r. ⌜ (done < n → r ≡ Refused 2 0) × (n ≤ done → r ≡ a) ⌝ }
+    ensures { λ r. ⌜ (done < n → r ≡ refused 2 0) × (n ≤ done → r ≡ a) ⌝ }
 {
     if done < n {
-        return Answer::Refused(2, 0);
+        return Answer::refused(2, 0);
     }
     a
 }
@@ -137,7 +137,7 @@ pub fn collect_many(
     if code != 0 {
         return Many {
             done: 0,
-            answer: Answer::Refused(code, 0),
+            answer: Answer::refused(code, 0),
             rec: x,
         };
     }

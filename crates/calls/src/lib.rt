@@ -1,5 +1,4 @@
 // A step by value: a kind and seven numbers, done by the call that the kind names.
-use rules::Answer;
 use rules::Made;
 use rules::Place;
 use rules::Record;
@@ -60,8 +59,5 @@ pub fn step(left: &mut [u16], right: &mut [u16], colour: &mut [u8], x: Record, a
     if kind == 4 {
         return editor::look(left, right, colour, x, source(a));
     }
-    Made {
-        answer: Answer::Refused(unreadable(left.len(), right.len(), colour.len(), x), 0),
-        rec: x,
-    }
+    rules::refusal(unreadable(left.len(), right.len(), colour.len(), x), 0, x)
 }

@@ -1,4 +1,5 @@
 // Look, Link and Shade, over three lent slices and a record that goes by value.
+use places::Source;
 use rules::Answer;
 use rules::Made;
 use rules::Owed;
@@ -14,7 +15,7 @@ ghost use Rattle.rules.specs.Editor.{look, linkTo, depart, pay};
 ghost use Rattle.rules.specs.Steps.{step, looking, linking, shading};
 ghost use Rattle.rules.specs.Facts.{Good, Owable};
 ghost use Rattle.rules.specs.declared.Record.{Record};
-ghost use Rattle.editor.specs.Codes.{lookCode, linkCode};
+ghost use Rattle.editor.specs.Codes.{lookCode};
 ghost use Rattle.base.specs.Lent.{was, is};
 ghost use Rattle.rules.specs.Lent.{given};
 
@@ -35,53 +36,16 @@ pub fn look(left: &[u16], right: &[u16], colour: &[u8], x: Record, p: Place) -> 
 {
     let code = look_code(left.len(), right.len(), colour.len(), x, p);
     if code != 0 {
-        return Made {
-            answer: Answer::Refused(code, 0),
-            rec: x,
-        };
+        return rules::refusal(code, 0, x);
     }
     let found = places::walk(left, right, x.m, p);
     let Walk::At(n) = found else {
-        return Made {
-            answer: Answer::Refused(7, places::stood(found)),
-            rec: x,
-        };
+        return rules::refusal(7, places::stood(found), x);
     };
     Made {
         answer: Answer::Named(n),
         rec: x,
     }
-}
-
-fn link_code(
-    lefts: usize,
-    rights: usize,
-    colours: usize,
-    x: Record,
-    p: Place,
-    side: u32,
-    q: Place,
-) -> u8
-    ensures { λ c. ⌜ c ≡ linkCode lefts rights colours x p side q ⌝ }
-{
-    let checked = rules::check(lefts, rights, colours, x);
-    if checked != 0 {
-        return checked;
-    }
-    let sided = places::side_code(side);
-    if sided != 0 {
-        return sided;
-    }
-    let from = places::place_code(x.r, p);
-    if from != 0 {
-        return from;
-    }
-    let to = places::place_code(x.r, q);
-    if to != 0 {
-        return to;
-    }
-    let owed = x.owed;
-    places::owed_code(owed)
 }
 
 // Link, from its source n: the target is walked, the edge moves, the shade is owed.
@@ -95,10 +59,7 @@ fn link_to(left: &mut [u16], right: &mut [u16], x: Record, side: u32, q: Place, 
 {
     let to = places::walk(left, right, x.m, q);
     let Walk::At(t) = to else {
-        return Made {
-            answer: Answer::Refused(7, places::stood(to)),
-            rec: x,
-        };
+        return rules::refusal(7, places::stood(to), x);
     };
     table::set_edge(left, right, side, n, t);
     Made {
@@ -117,20 +78,11 @@ fn link_from(left: &mut [u16], right: &mut [u16], x: Record, p: Place, side: u32
         ≡ depart (state (was left) (was right) c x) p
         (linkTo (state (was left) (was right) c x) side q)) ⌝ }
 {
-    let from = places::walk(left, right, x.m, p);
-    let Walk::At(n) = from else {
-        return Made {
-            answer: Answer::Refused(7, places::stood(from)),
-            rec: x,
-        };
-    };
-    if n == 0 {
-        return Made {
-            answer: Answer::Refused(8, 0),
-            rec: x,
-        };
+    let from = places::depart(left, right, x.m, p);
+    match from {
+        Source::Found(n) => link_to(left, right, x, side, q, n),
+        Source::Missing(code, n) => rules::refusal(code, n, x),
     }
-    link_to(left, right, x, side, q, n)
 }
 
 // The edge of the source on a side now points to the target, whose shade is owed.
@@ -146,12 +98,10 @@ pub fn link(
     ensures { λ r. ⌜ outcome r (is left) (is right) (was colour)
         ≡ step (linking p side q) (given left right colour x) ⌝ }
 {
-    let code = link_code(left.len(), right.len(), colour.len(), x, p, side, q);
+    let target = places::place_code(x.r, q);
+    let code = places::edit_code(left.len(), right.len(), colour.len(), x, p, side, target);
     if code != 0 {
-        return Made {
-            answer: Answer::Refused(code, 0),
-            rec: x,
-        };
+        return rules::refusal(code, 0, x);
     }
     link_from(left, right, x, p, side, q)
 }
@@ -163,17 +113,11 @@ fn pay(colour: &mut [u8], x: Record, owed: Owed) -> Made
         ≡ pay (table es (was colour) x) owed) ⌝ }
 {
     match owed {
-        Owed::Nothing => Made {
-            answer: Answer::Refused(6, 0),
-            rec: x,
-        },
+        Owed::Nothing => rules::refusal(6, 0, x),
         Owed::Node(n) => {
             let at = n as usize;
             if 2 < colour[at] {
-                return Made {
-                    answer: Answer::Refused(7, n),
-                    rec: x,
-                };
+                return rules::refusal(7, n, x);
             }
             table::shade_node(colour, n);
             Made {
@@ -191,10 +135,7 @@ pub fn shade(left: &[u16], right: &[u16], colour: &mut [u8], x: Record) -> Made
 {
     let code = rules::check(left.len(), right.len(), colour.len(), x);
     if code != 0 {
-        return Made {
-            answer: Answer::Refused(code, 0),
-            rec: x,
-        };
+        return rules::refusal(code, 0, x);
     }
     let owed = x.owed;
     pay(colour, x, owed)

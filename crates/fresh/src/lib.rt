@@ -6,7 +6,7 @@ ghost use mathlib.Core.Path.{_≡_};
 ghost use mathlib.Core.List.{[], _∷_};
 ghost use Prim.Native.Nat.{_<_, _≤_};
 ghost use lib.ListN.{length};
-ghost use Rattle.rules.specs.Table.{state};
+ghost use Rattle.rules.specs.Table.{mostNodes, mostSlots, state};
 ghost use Rattle.rules.specs.Records.{freshRecord};
 ghost use Rattle.rules.specs.Fresh.{nextFree, freshLeft, freshLast, freshState, fresh};
 ghost use Rattle.base.specs.Lent.{was, is};
@@ -14,7 +14,7 @@ ghost use Rattle.rules.specs.Lent.{leaves};
 
 // The node after n on the free list.
 fn next_free(m: u16, n: u16) -> u16
-    requires { ⌜ n ≤ 4096 ⌝ }
+    requires { ⌜ n ≤ mostNodes ⌝ }
     ensures { λ e. ⌜ e ≡ nextFree m n ⌝ }
 {
     if n + 1 < m {
@@ -25,8 +25,8 @@ fn next_free(m: u16, n: u16) -> u16
 
 // The left edge of node n.
 fn left_of(m: u16, r: u16, n: u16) -> u16
-    requires { ⌜ r ≤ 64 ⌝ }
-    requires { ⌜ n < 4096 ⌝ }
+    requires { ⌜ r ≤ mostSlots ⌝ }
+    requires { ⌜ n < mostNodes ⌝ }
     ensures { λ e. ⌜ e ≡ freshLeft m r n ⌝ }
 {
     if n == 1 {
@@ -43,8 +43,8 @@ fn fill(left: &mut [u16], right: &mut [u16], colour: &mut [u8], m: u16, r: u16)
     requires { ⌜ length (now left) ≡ m ⌝ }
     requires { ⌜ length (now right) ≡ m ⌝ }
     requires { ⌜ length (now colour) ≡ m ⌝ }
-    requires { ⌜ m ≤ 4096 ⌝ }
-    requires { ⌜ r ≤ 64 ⌝ }
+    requires { ⌜ m ≤ mostNodes ⌝ }
+    requires { ⌜ r ≤ mostSlots ⌝ }
     ensures { λ _. ⌜ state (is left) (is right) (is colour) (freshRecord m r (freshLast m r))
         ≡ freshState 2 m r ⌝ }
 {
@@ -61,7 +61,7 @@ fn fill(left: &mut [u16], right: &mut [u16], colour: &mut [u8], m: u16, r: u16)
 // The last free node, or FREE.
 fn last_of(m: u16, r: u16) -> u16
     requires { ⌜ 3 ≤ m ⌝ }
-    requires { ⌜ r ≤ 64 ⌝ }
+    requires { ⌜ r ≤ mostSlots ⌝ }
     ensures { λ n. ⌜ n ≡ freshLast m r ⌝ }
 {
     if r + 2 < m {
@@ -76,10 +76,7 @@ pub fn fresh(left: &mut [u16], right: &mut [u16], colour: &mut [u8], m: usize, r
         ≡ fresh m r (was left ∷ was right ∷ []) (was colour) ⌝ }
 {
     if !rules::size_ok(m, r, left.len(), right.len(), colour.len()) {
-        return Made {
-            answer: Answer::Refused(1, 0),
-            rec: Record::fresh(0, 0, 0),
-        };
+        return rules::refusal(1, 0, Record::fresh(0, 0, 0));
     }
     let nodes = m as u16;
     let slots = r as u16;

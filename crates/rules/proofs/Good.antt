@@ -9,6 +9,7 @@ use lib.Dec.{ltb, leb, eqb}
 use borrow.Author.Tests.{ltb-true, leb-true}
 use Rattle.base.specs.Choice.{every, pick}
 use Rattle.base.proofs.Tests.{each, facts, tests}
+use Rattle.rules.specs.Table.{mostNodes}
 use Rattle.rules.specs.Check.{sizeOk, phaseOk, owedOk, lastOk, bound, cycleOk, toldOk}
 use Rattle.rules.specs.Check.{countsOk, recordOk, checkOf}
 use Rattle.rules.specs.Facts.{Good, Tells, Inside, Owable}
@@ -69,7 +70,7 @@ good ll rl cl x e =
     let s = each _ (passes (ll ∷ rl ∷ []) cl x e .0) in
     let k = each _ (passes (ll ∷ rl ∷ []) cl x e .1) in
     let n = each _ (sym (each _ (sym (k .1 .1 .1 .0)) .0)) in
-    let h : x .m ≤ 4096 = omega facts in
+    let h : x .m ≤ mostNodes = omega facts in
     let q = square (x .m) h in
     let l = last-of (x .m) (x .r) (x .last) (k .1 .1 .0) (omega facts) in
     omega facts

@@ -5,7 +5,7 @@ use mathlib.Core.Bool.{Bool, true, _||_, not}
 use mathlib.Core.List.{List, [], _∷_, _++_, map}
 use lib.ListN.{length}
 use lib.Dec.{ltb, leb, eqb}
-use Rattle.rules.specs.Table.{State, FREE}
+use Rattle.rules.specs.Table.{State, FREE, mostNodes, mostSlots}
 use Rattle.rules.specs.declared.Record.{Record}
 use Rattle.rules.specs.declared.Phase.{Phase}
 use Rattle.rules.specs.declared.Phase.the-variants.{Roots, Scan, Left, Right, Black, Append}
@@ -16,7 +16,7 @@ use Rattle.rules.specs.declared.Owed.the-variants.{Nothing, Node}
 -- the edges, and the colours'.
 unfoldable pub sizeOk : ℕ → ℕ → List ℕ → ℕ → Bool
 sizeOk m r edges colours =
-    every (leb 3 m ∷ leb m 4096 ∷ leb 1 r ∷ leb r 64 ∷ leb (r + 2)
+    every (leb 3 m ∷ leb m mostNodes ∷ leb 1 r ∷ leb r mostSlots ∷ leb (r + 2)
     m ∷ (map (λ n. eqb n m) edges ++ (eqb colours m ∷ [])))
 
 -- [Record 3] the position of the phase

@@ -4,10 +4,10 @@ use Prim.Native.Nat.{ℕ, zero, suc, _+_, _-_}
 use mathlib.Core.List.{List, [], _∷_, _++_, map}
 use lib.ListN.{length, replicate}
 use lib.Dec.{ltb, eqb}
-use Rattle.rules.specs.Table.{State, Outcome, table, white, FREE}
+use Rattle.rules.specs.Table.{State, Outcome, table, refused, white, FREE}
 use Rattle.rules.specs.Records.{freshRecord}
 use Rattle.rules.specs.Check.{sizeOk}
-use Rattle.rules.specs.declared.Answer.the-variants.{Started, Refused}
+use Rattle.rules.specs.declared.Answer.the-variants.{Started}
 
 -- f 0, f 1, .., f (n - 1)
 unfoldable pub tabulate : (ℕ → ℕ) → ℕ → List ℕ
@@ -44,4 +44,4 @@ unfoldable pub fresh : ℕ → ℕ → List (List ℕ) → List ℕ → Outcome
 fresh m r edges colours =
     pick (sizeOk m r (map length edges) (length colours))
     (record { answer = Started (freshLast m r); state = freshState (length edges) m r })
-    (record { answer = Refused 1 0; state = table edges colours (freshRecord 0 0 0) })
+    (record { answer = refused 1 0; state = table edges colours (freshRecord 0 0 0) })

@@ -21,11 +21,15 @@ unfoldable pub sidesOk : ℕ → ℕ → ℕ → Bool
 sidesOk E zero word = true
 sidesOk E (suc turns) word = every (ltb (word % base E) E ∷ sidesOk E turns (word / base E) ∷ [])
 
--- [Codes 4] at most 12 turns [Places 2], and no bit is set beyond them [Places 3]
+-- [Places 2] the most turns
+abbrev pub mostTurns : ℕ
+mostTurns = 12
+
+-- [Codes 4] not too many turns [Places 2], and no bit is set beyond them [Places 3]
 unfoldable pub turnsOk : ℕ → Place → Bool
 turnsOk E p =
-    every (leb (p .count) 12 ∷ sidesOk E (p .count) (p .word) ∷ eqb (p .word / base E ^ p .count)
-    0 ∷ [])
+    every (leb (p .count) mostTurns ∷ sidesOk E (p .count) (p .word) ∷ eqb
+    (p .word / base E ^ p .count) 0 ∷ [])
 
 -- [Places 1] a place: code 3 for a slot that is none [Codes 3], then code 4 [Places 8]
 unfoldable pub placeCode : ℕ → ℕ → Place → ℕ

@@ -110,9 +110,13 @@ next x i = (i + 1) % x .m
 abbrev pub rescan : Record → ℕ → Record
 rescan x i = withBlackened (moved x (Scan (next x i) (x .m))) (x .blackened + 1)
 
+-- [Record 7] the largest number that 32 bits hold
+abbrev pub mostCycles : ℕ
+mostCycles = 4294967295
+
 -- [Record 7] one more cycle, where 32 bits hold it
 unfoldable pub oneMore : ℕ → ℕ
-oneMore n = pick (ltb n 4294967295) (n + 1) n
+oneMore n = pick (ltb n mostCycles) (n + 1) n
 
 -- [Append 5] the cycle is complete; this step is among those that it took [Record 8]
 abbrev pub closed : Record → Record

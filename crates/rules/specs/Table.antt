@@ -11,6 +11,13 @@ use Rattle.rules.specs.declared.Answer.{Answer}
 use Rattle.rules.specs.declared.Answer.the-variants.{Refused}
 use Rattle.rules.specs.declared.Made.{Made}
 
+-- [Table 1] the most nodes, and the most slots
+abbrev pub mostNodes : ℕ
+mostNodes = 4096
+
+abbrev pub mostSlots : ℕ
+mostSlots = 64
+
 -- [Table 2] [Record 1] the table as lists, and the record beside them. A list of edges for each
 -- side, in the order of the sides.
 pub record State : Type 0 where
@@ -45,9 +52,17 @@ outcome d l r c = handed d (l ∷ r ∷ []) c
 abbrev pub did : Answer → State → Record → Outcome
 did a s x = record { answer = a; state = table (s .edges) (s .colour) x }
 
--- [Answers 3] [Answers 4] a refusal answers a code and a node, and the state stays
+-- [Answers 3] who refuses answers a code and a node
+abbrev pub refused : ℕ → ℕ → Answer
+refused code node = Refused code node
+
+-- [Answers 4] a refusal: what a function hands back that refuses; the record stays
+abbrev pub refusal : ℕ → ℕ → Record → Made
+refusal code node x = record { answer = refused code node; rec = x }
+
+-- [Answers 4] refused: the state stays
 abbrev pub refuse : State → ℕ → ℕ → Outcome
-refuse s code node = record { answer = Refused code node; state = s }
+refuse s code node = record { answer = refused code node; state = s }
 
 -- [Order 5] refused with node 0, unless the code is 0
 unfoldable pub unless : ℕ → State → Outcome → Outcome

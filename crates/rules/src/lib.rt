@@ -4,12 +4,25 @@
 ghost use mathlib.Core.Path.{_≡_};
 ghost use mathlib.Core.List.{[], _∷_};
 ghost use Prim.Native.Nat.{_+_, _*_, _<_, _≤_};
+ghost use Rattle.rules.specs.Table.{mostNodes, mostSlots, refusal, refused};
+ghost use Rattle.rules.specs.Facts.{manySteps};
 ghost use Rattle.rules.specs.Records.{position, freshRecord, withPhase, withOwed, withLast};
 ghost use Rattle.rules.specs.Records.{owing, paid, moved, marked, rescan, oneMore, closed};
 ghost use Rattle.rules.specs.Records.{afterAppend};
 ghost use Rattle.rules.specs.Check.{sizeOk, phaseOk, owedOk, lastOk, bound, cycleOk, toldOk};
 ghost use Rattle.rules.specs.Check.{countsOk, recordOk, checkOf};
 ghost use Rattle.rules.specs.Steps.{codeOf, nodeOf};
+
+// [Table 1] The most nodes that a table has, and the most slots.
+pub const MOST_NODES: usize = 4096;
+
+pub const MOST_SLOTS: usize = 64;
+
+// [Places 2] The most turns of a place.
+pub const MOST_TURNS: u32 = 12;
+
+// [Record 7] The count of cycles goes no further.
+const MOST_CYCLES: u32 = 4294967295;
 
 // Where the collector is: six cases, each with its own position.
 pub enum Phase {
@@ -100,13 +113,13 @@ pub fn size_ok(m: usize, r: usize, lefts: usize, rights: usize, colours: usize) 
     if m < 3 {
         return false;
     }
-    if 4096 < m {
+    if MOST_NODES < m {
         return false;
     }
     if r < 1 {
         return false;
     }
-    if 64 < r {
+    if MOST_SLOTS < r {
         return false;
     }
     if m < r + 2 {
@@ -125,7 +138,7 @@ pub fn size_ok(m: usize, r: usize, lefts: usize, rights: usize, colours: usize) 
 }
 
 fn phase_ok(m: u16, r: u16, p: Phase) -> bool
-    requires { ⌜ r ≤ 64 ⌝ }
+    requires { ⌜ r ≤ mostSlots ⌝ }
     ensures { λ ok. ⌜ ok ≡ phaseOk m r p ⌝ }
 {
     match p {
@@ -161,7 +174,7 @@ fn owed_ok(m: u16, owed: Owed) -> bool
 }
 
 fn last_ok(m: u16, r: u16, n: u16) -> bool
-    requires { ⌜ r ≤ 64 ⌝ }
+    requires { ⌜ r ≤ mostSlots ⌝ }
     ensures { λ ok. ⌜ ok ≡ lastOk m r n ⌝ }
 {
     if n == 1 {
@@ -175,8 +188,8 @@ fn last_ok(m: u16, r: u16, n: u16) -> bool
 
 // B, the most steps that a cycle may take.
 pub fn bound(m: u16, r: u16) -> u32
-    requires { ⌜ m ≤ 4096 ⌝ }
-    requires { ⌜ r ≤ 64 ⌝ }
+    requires { ⌜ m ≤ mostNodes ⌝ }
+    requires { ⌜ r ≤ mostSlots ⌝ }
     ensures { λ b. ⌜ b ≡ bound 2 m r ⌝ }
 {
     let n = m as u32;
@@ -213,8 +226,8 @@ fn counts_ok(x: Record, b: u32) -> bool
 }
 
 fn record_ok(x: Record) -> bool
-    requires { ⌜ x .m ≤ 4096 ⌝ }
-    requires { ⌜ x .r ≤ 64 ⌝ }
+    requires { ⌜ x .m ≤ mostNodes ⌝ }
+    requires { ⌜ x .r ≤ mostSlots ⌝ }
     ensures { λ ok. ⌜ ok ≡ recordOk 2 x ⌝ }
 {
     let phase = x.phase;
@@ -261,10 +274,20 @@ pub fn position(phase: Phase) -> u16
 fn one_more(n: u32) -> u32
     ensures { λ r. ⌜ r ≡ oneMore n ⌝ }
 {
-    if n < 4294967295 {
+    if n < MOST_CYCLES {
         return n + 1;
     }
     n
+}
+
+// [Answers 4] What a call that is refused hands back: the record stays.
+pub fn refusal(code: u8, node: u16, x: Record) -> Made
+    ensures { λ r. ⌜ r ≡ refusal code node x ⌝ }
+{
+    Made {
+        answer: Answer::refused(code, node),
+        rec: x,
+    }
 }
 
 impl Record {
@@ -342,7 +365,7 @@ impl Record {
 
     // A collector step is counted, and the phase moves.
     pub fn moved(mut self, phase: Phase) -> Record
-        requires { ⌜ self .steps < 20000000 ⌝ }
+        requires { ⌜ self .steps < manySteps ⌝ }
         ensures { λ r. ⌜ r ≡ moved self phase ⌝ }
     {
         self.steps = self.steps + 1;
@@ -351,7 +374,7 @@ impl Record {
 
     // The step that ends the marking: nodes in use is set.
     pub fn marked(mut self) -> Record
-        requires { ⌜ self .steps < 20000000 ⌝ }
+        requires { ⌜ self .steps < manySteps ⌝ }
         ensures { λ r. ⌜ r ≡ marked self ⌝ }
     {
         self.inuse = self.blackened;
@@ -360,9 +383,9 @@ impl Record {
 
     // The step that blackens node i: the scan begins again behind it.
     pub fn rescan(mut self, i: u16) -> Record
-        requires { ⌜ self .steps < 20000000 ⌝ }
-        requires { ⌜ self .blackened ≤ 4096 ⌝ }
-        requires { ⌜ i < 4096 ⌝ }
+        requires { ⌜ self .steps < manySteps ⌝ }
+        requires { ⌜ self .blackened ≤ mostNodes ⌝ }
+        requires { ⌜ i < mostNodes ⌝ }
         requires { ⌜ 0 < self .m ⌝ }
         ensures { λ r. ⌜ r ≡ rescan self i ⌝ }
     {
@@ -372,7 +395,7 @@ impl Record {
 
     // The step that completes the cycle.
     fn closed(mut self) -> Record
-        requires { ⌜ self .steps < 20000000 ⌝ }
+        requires { ⌜ self .steps < manySteps ⌝ }
         ensures { λ r. ⌜ r ≡ closed self ⌝ }
     {
         self.took = self.steps + 1;
@@ -384,8 +407,8 @@ impl Record {
 
     // After Append i.
     pub fn after_append(self, i: u16) -> Record
-        requires { ⌜ self .steps < 20000000 ⌝ }
-        requires { ⌜ i < 4096 ⌝ }
+        requires { ⌜ self .steps < manySteps ⌝ }
+        requires { ⌜ i < mostNodes ⌝ }
         ensures { λ r. ⌜ r ≡ afterAppend self i ⌝ }
     {
         if i + 1 == self.m {
@@ -395,7 +418,15 @@ impl Record {
     }
 }
 
+// The one place where a refusal is made.
 impl Answer {
+    // [Answers 3] Refused with a code, and a node.
+    pub fn refused(code: u8, node: u16) -> Answer
+        ensures { λ a. ⌜ a ≡ refused code node ⌝ }
+    {
+        Answer::Refused(code, node)
+    }
+
     // [Answers 2] The code: 0 where done.
     pub fn code(self) -> u8
         ensures { λ c. ⌜ c ≡ codeOf self ⌝ }

@@ -12,8 +12,13 @@ use Rattle.batch.proofs.collect_many.Tie as tie
 check-requires : tie.Need-check-requires
 check-requires c κs = search needs
 
+refused-requires : tie.Need-refused-requires
+refused-requires c κs = search needs
+
 returns : tie.Need-returns
-returns c = unscheduled _ _ _ (c .before .check .ensures) (c .if1 .taken)
+returns c =
+    rw (c .refused .ensures)
+    (unscheduled _ _ _ (c .before .before .check .ensures) (c .before .if1 .taken))
 
 bound-requires : tie.Need-bound-requires
 bound-requires c κs = let g =
@@ -51,6 +56,7 @@ collect-many-spec =
     tie.close
     (tie.spec
     check-requires
+    refused-requires
     returns
     bound-requires
     all-steps-requires

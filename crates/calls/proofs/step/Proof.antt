@@ -1,3 +1,5 @@
+-- For each kind, the call that is made has the definition's step of that kind by its own
+-- contract; a kind above 4 is refused as the definition says.
 use mathlib.Core.Path.{_∙_}
 use lib.ListN.{take}
 use borrow.Author.Needs.{needs}
@@ -113,12 +115,18 @@ returns-5 c =
 unreadable-requires : tie.Need-unreadable-requires
 unreadable-requires c κs = search needs
 
+refusal-requires : tie.Need-refusal-requires
+refusal-requires c κs = search needs
+
 returns-6 : tie.Need-returns-6
 unfolding unreadable
 returns-6 c =
-    kind-none _ _ _ (c .unreadable .ensures) (c .before .before .before .before .before .if1 .left)
-    (c .before .before .before .before .if2 .left) (c .before .before .before .if3 .left)
-    (c .before .before .if4 .left) (c .before .if5 .left)
+    let at-if5 = c .before .before in
+    let at-if3 = at-if5 .before .before in
+    rw (c .refusal .ensures)
+    (kind-none _ _ _ (c .before .unreadable .ensures) (at-if3 .before .before .if1 .left)
+    (at-if3 .before .if2 .left) (at-if3 .if3 .left) (at-if5 .before .if4 .left)
+    (at-if5 .if5 .left))
 
 pub step-spec : {M : Type 1} → statement M
 step-spec =
@@ -154,4 +162,5 @@ step-spec =
     same-length-15
     returns-5
     unreadable-requires
+    refusal-requires
     returns-6)

@@ -1,3 +1,8 @@
+-- Past the two refusals the three writes are those of the definition, in its order: node i and
+-- last lie in the table.
+use Prim.Native.Nat.{_<_}
+use lib.ListN.{length}
+use denote.Ref.{now}
 use native.Mathlib.Omega.{arith}
 use borrow.Author.Needs.{needs}
 use Rattle.base.proofs.Tests.{tests}
@@ -13,13 +18,19 @@ cast-end c = search needs
 add-if1 : tie.Need-add-if1
 add-if1 c = search needs
 
+refusal-requires : tie.Need-refusal-requires
+refusal-requires c κs = search needs
+
 returns : tie.Need-returns
 unfolding appendWhite
-returns c = λ l. search (same, tests, needs) depth 12
+returns c = λ l. rw (c .refusal .ensures) (search (tests, needs) depth 12)
+
+refusal-requires-2 : tie.Need-refusal-requires-2
+refusal-requires-2 c κs = search needs
 
 returns-2 : tie.Need-returns-2
 unfolding appendWhite
-returns-2 c = λ l. search (same, tests, needs) depth 12
+returns-2 c = λ l. rw (c .refusal2 .ensures) (search (tests, needs) depth 12)
 
 mul-left : tie.Need-mul-left
 mul-left c = search needs
@@ -37,7 +48,11 @@ mul-left-2 : tie.Need-mul-left-2
 mul-left-2 c = search needs
 
 slice-write-left-2 : tie.Need-slice-write-left-2
-slice-write-left-2 c = search needs
+slice-write-left-2 c =
+    let at-entry = c .before .before .before .before .before .before .before in
+    let inside : at-entry .args .x .last < length (now (at-entry .args .left)) =
+    omega (arith, at-entry .pre) in
+    search needs
 
 with-last-requires : tie.Need-with-last-requires
 with-last-requires c κs = search needs
@@ -63,7 +78,9 @@ append-white-spec =
     (tie.spec
     cast-end
     add-if1
+    refusal-requires
     returns
+    refusal-requires-2
     returns-2
     mul-left
     slice-write-left

@@ -1,3 +1,5 @@
+-- The colour written and the record are the definition's; blackened is at most M, so that one
+-- more fits.
 use borrow.Author.Needs.{needs}
 use Rattle.base.proofs.Tests.{tests}
 use Rattle.rules.specs.Collector.{blackStep}

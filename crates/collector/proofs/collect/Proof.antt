@@ -1,3 +1,5 @@
+-- Where codes 1 and 2 are not given, the record and the lengths are good and the phase's
+-- position is in range, which is all that `phase_step` asks.
 use mathlib.Core.Path.{sym, _∙_}
 use borrow.Author.Needs.{needs}
 use Rattle.rules.specs.Collector.{collect}
@@ -9,9 +11,14 @@ use Rattle.collector.proofs.collect.Tie as tie
 check-requires : tie.Need-check-requires
 check-requires c κs = search needs
 
+refusal-requires : tie.Need-refusal-requires
+refusal-requires c κs = search needs
+
 returns : tie.Need-returns
 unfolding collect
-returns c = rw step-collecting (unless-refused _ _ _ _ (c .before .check .ensures) (c .if1 .taken))
+returns c =
+    rw (step-collecting, c .refusal .ensures)
+    (unless-refused _ _ _ _ (c .before .before .check .ensures) (c .before .if1 .taken))
 
 phase-step-requires : tie.Need-phase-step-requires
 phase-step-requires c κs = (
@@ -45,6 +52,7 @@ collect-spec =
     tie.close
     (tie.spec
     check-requires
+    refusal-requires
     returns
     phase-step-requires
     same-length

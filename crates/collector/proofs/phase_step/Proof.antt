@@ -1,3 +1,5 @@
+-- In each arm the phase is known, and the definition at it is the arm's call. What the call asks
+-- follows from the record's test and the phase's position.
 use native.Mathlib.Omega.{arith}
 use borrow.Author.Needs.{needs}
 use Rattle.rules.specs.Collector.{phaseStep}

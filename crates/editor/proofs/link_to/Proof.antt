@@ -1,3 +1,5 @@
+-- The walk's contract says where the target is. It lies in the table; the edge written and the
+-- record that owes are the definition's.
 use borrow.Author.Needs.{needs}
 use Rattle.rules.specs.Editor.{linkTo}
 use Rattle.places.proofs.Arrivals.{arrives, stops, leaves}
@@ -16,6 +18,9 @@ enum-told c = search needs
 stood-requires : tie.Need-stood-requires
 stood-requires c κs = search needs
 
+refusal-requires : tie.Need-refusal-requires
+refusal-requires c κs = search needs
+
 same-length : tie.Need-same-length
 same-length c = search needs
 
@@ -25,8 +30,9 @@ same-length-2 c = search needs
 returns : tie.Need-returns
 unfolding linkTo
 returns c =
-    λ k. stops _ _ _ _ _ _ (c .before .before .before .walk .ensures)
-    (c .before .enum-told .given .1) (c .stood .ensures)
+    λ k. rw (c .refusal .ensures)
+    (stops _ _ _ _ _ _ (c .before .before .before .before .walk .ensures)
+    (c .before .before .enum-told .given .1) (c .before .stood .ensures))
 
 set-edge-requires : tie.Need-set-edge-requires
 set-edge-requires c κs = search needs
@@ -59,6 +65,7 @@ link-to-spec =
     enum-known-to
     enum-told
     stood-requires
+    refusal-requires
     same-length
     same-length-2
     returns

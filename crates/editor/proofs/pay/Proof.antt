@@ -1,3 +1,4 @@
+-- Each arm is a case of the definition; a node that may be owed lies in the table.
 use mathlib.Core.Path.{subst}
 use lib.ListN.{length}
 use native.Mathlib.Omega.{arith}
@@ -12,6 +13,9 @@ use Rattle.editor.proofs.pay.Tie as tie
 enum-told : tie.Need-enum-told
 enum-told c = search needs
 
+refusal-requires : tie.Need-refusal-requires
+refusal-requires c κs = search needs
+
 enum-known-owed : tie.Need-enum-known-owed
 enum-known-owed c = search needs
 
@@ -24,10 +28,14 @@ slice-read-if1 c = let h =
     (c .before .before .owed .given .1) (c .before .before .before .before .before .pre) in
     omega arith
 
+refusal-requires-2 : tie.Need-refusal-requires-2
+refusal-requires-2 c κs = search needs
+
 returns : tie.Need-returns
 unfolding pay
 returns c =
-    λ es. rw (c .before .before .before .owed .given .1) (search (same, tests, needs) depth 12)
+    λ es. rw (c .refusal2 .ensures, c .before .before .before .before .owed .given .1)
+    (search (tests, needs) depth 12)
 
 shade-node-requires : tie.Need-shade-node-requires
 shade-node-requires c κs =
@@ -41,7 +49,7 @@ paid-requires c κs = search needs
 
 returns-2 : tie.Need-returns-2
 unfolding pay
-returns-2 c = λ es. rw (c .enum-told .given .1)
+returns-2 c = λ es. rw (c .refusal .ensures, c .before .enum-told .given .1)
 
 same-length : tie.Need-same-length
 same-length c = search needs
@@ -57,9 +65,11 @@ pay-spec =
     tie.close
     (tie.spec
     enum-told
+    refusal-requires
     enum-known-owed
     cast-at
     slice-read-if1
+    refusal-requires-2
     returns
     shade-node-requires
     paid-requires

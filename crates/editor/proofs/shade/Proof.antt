@@ -1,3 +1,5 @@
+-- Where codes 1 and 2 are not given, the node owed lies in the table, which is all that `pay`
+-- asks.
 use mathlib.Core.Path.{sym, _∙_}
 use borrow.Author.Needs.{needs}
 use Rattle.rules.specs.Editor.{pay, shadeOwed}
@@ -9,9 +11,14 @@ use Rattle.editor.proofs.shade.Tie as tie
 check-requires : tie.Need-check-requires
 check-requires c κs = search needs
 
+refusal-requires : tie.Need-refusal-requires
+refusal-requires c κs = search needs
+
 returns : tie.Need-returns
 unfolding shadeOwed
-returns c = rw step-shading (unless-refused _ _ _ _ (c .before .check .ensures) (c .if1 .taken))
+returns c =
+    rw (step-shading, c .refusal .ensures)
+    (unless-refused _ _ _ _ (c .before .before .check .ensures) (c .before .if1 .taken))
 
 pay-requires : tie.Need-pay-requires
 pay-requires c κs = let g =
@@ -30,4 +37,12 @@ returns-2 c =
     (c .before .before .before .before .if1 .left) (c .before .before .pay .ensures _))
 
 pub shade-spec : {M : Type 1} → statement M
-shade-spec = tie.close (tie.spec check-requires returns pay-requires same-length returns-2)
+shade-spec =
+    tie.close
+    (tie.spec
+    check-requires
+    refusal-requires
+    returns
+    pay-requires
+    same-length
+    returns-2)

@@ -1,3 +1,5 @@
+-- The first n entries of each list are those of the definition: a turn adds one to each, and at
+-- M the lists are whole.
 use Prim.Native.Nat.{_-_, _≤_}
 use mathlib.Core.Path.{_≡_, refl}
 use lib.ListN.{length, take, length-set}

@@ -1,4 +1,6 @@
-use mathlib.Core.Path.{_∙_}
+-- Where the sizes pass, M and R fit their widths and `fill` can be called; it leaves the
+-- definition's table, and the record and the answer are the definition's.
+use mathlib.Core.Path.{refl, _∙_}
 use borrow.Author.Needs.{needs}
 use Rattle.base.proofs.Tests.{facts, each, not-no, not-yes, pick-yes, pick-no}
 use Rattle.rules.specs.Check.{sizeOk}
@@ -12,10 +14,15 @@ size-ok-requires c κs = search needs
 fresh-requires : tie.Need-fresh-requires
 fresh-requires c κs = search needs
 
+refusal-requires : tie.Need-refusal-requires
+refusal-requires c κs = search needs
+
 returns : tie.Need-returns
 unfolding fresh
 returns c =
-    pick-no _ _ _ _ (not-yes _ (c .before .if1 .taken) ∙ c .before .before .size-ok .ensures) (cc)
+    let at-if1 = c .before .before in
+    rw (c .refusal .ensures, c .before .fresh .ensures)
+    (pick-no _ _ _ _ (not-yes _ (at-if1 .if1 .taken) ∙ at-if1 .before .size-ok .ensures) refl)
 
 cast-nodes : tie.Need-cast-nodes
 unfolding sizeOk
@@ -69,6 +76,7 @@ fresh-spec =
     (tie.spec
     size-ok-requires
     fresh-requires
+    refusal-requires
     returns
     cast-nodes
     cast-slots

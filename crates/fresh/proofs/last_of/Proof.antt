@@ -1,3 +1,4 @@
+-- One test, the definition's.
 use borrow.Author.Needs.{needs}
 use Rattle.base.proofs.Tests.{tests}
 use Rattle.rules.specs.Fresh.{freshLast}

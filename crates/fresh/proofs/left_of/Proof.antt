@@ -1,3 +1,4 @@
+-- The two tests stand in the definition's order; R is at most 64, so that the sums fit.
 use borrow.Author.Needs.{needs}
 use Rattle.base.proofs.Tests.{tests}
 use Rattle.rules.specs.Fresh.{freshLeft}

@@ -1,3 +1,4 @@
+-- Each arm is a case of the definition.
 use borrow.Author.Needs.{needs}
 use Rattle.rules.specs.Editor.{owedCode}
 use Rattle.places.proofs.owed_code.Statement.{statement}

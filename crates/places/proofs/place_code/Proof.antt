@@ -1,3 +1,4 @@
+-- The two tests stand in the definition's order.
 use borrow.Author.Needs.{needs}
 use Rattle.base.proofs.Tests.{tests}
 use Rattle.rules.specs.Places.{placeCode}

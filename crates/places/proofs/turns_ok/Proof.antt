@@ -1,3 +1,5 @@
+-- With at most 12 turns the shift is the division by a power of 2 that the definition has; a bit
+-- is always a side of a table of two edges.
 use borrow.Author.Needs.{needs}
 use Rattle.base.proofs.Tests.{tests}
 use Rattle.rules.specs.Places.{turnsOk}

@@ -1,3 +1,6 @@
+-- What is left of the walk from here answers what the whole walk answers: a turn keeps that by
+-- the law of one turn, and an edge that is not bad leads to a node of the table. Each turn
+-- leaves one less.
 use Prim.Native.Nat.{_<_}
 use mathlib.Core.Path.{_≡_, refl, sym, _∙_}
 use mathlib.Core.List.{[], _∷_}

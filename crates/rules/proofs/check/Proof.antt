@@ -1,3 +1,5 @@
+-- The sizes are judged first. Where they pass, M and R are in range, which is what the record's
+-- test asks.
 use mathlib.Core.Path.{_∙_}
 use borrow.Author.Needs.{needs}
 use Rattle.base.proofs.Tests.{tests, facts, each, not-no}

@@ -1,3 +1,4 @@
+-- Nothing owed passes; a node passes by the definition's two tests.
 use borrow.Author.Needs.{needs}
 use Rattle.base.proofs.Tests.{tests}
 use Rattle.rules.specs.Check.{owedOk}

@@ -1,3 +1,4 @@
+-- The side is 0 or 1, and the entry read is that list's.
 use borrow.Author.Needs.{needs}
 use Rattle.rules.proofs.Laws.{on-left, on-right}
 use Rattle.table.proofs.edge.Statement.{statement}

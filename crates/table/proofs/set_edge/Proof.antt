@@ -1,3 +1,4 @@
+-- The side is 0 or 1, and the entry written is that list's; the other lists stay.
 use borrow.Author.Needs.{needs}
 use Rattle.rules.proofs.Laws.{set-left, set-right}
 use Rattle.table.proofs.set_edge.Statement.{statement}

@@ -1,3 +1,4 @@
+-- Only a white colour is written, and then gray, as the definition has it.
 use borrow.Author.Needs.{needs}
 use Rattle.base.proofs.Tests.{tests}
 use Rattle.rules.specs.Table.{shadeIn}

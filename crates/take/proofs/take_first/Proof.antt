@@ -1,3 +1,5 @@
+-- The tests stand in the definition's order. An edge of the free list that is not bad leads into
+-- the table, so its node's own edge can be read.
 use mathlib.Core.Path.{refl, sym, _∙_}
 use native.Mathlib.Omega.{arith}
 use borrow.Author.Needs.{needs}
@@ -10,15 +12,25 @@ use Rattle.take.proofs.take_first.Tie as tie
 bad-free-requires : tie.Need-bad-free-requires
 bad-free-requires c κs = search needs
 
+refusal-requires : tie.Need-refusal-requires
+refusal-requires c κs = search needs
+
 returns : tie.Need-returns
 unfolding takeFirst
-returns c = pick-yes _ _ _ _ (sym (c .if1 .taken) ∙ c .before .bad-free .ensures) refl
+returns c =
+    rw (c .refusal .ensures)
+    (pick-yes _ _ _ _ (sym (c .before .if1 .taken) ∙ c .before .before .bad-free .ensures) refl)
+
+refusal-requires-2 : tie.Need-refusal-requires-2
+refusal-requires-2 c κs = search needs
 
 returns-2 : tie.Need-returns-2
 unfolding takeFirst
 returns-2 c =
-    pick-no _ _ _ _ (sym (c .before .if1 .left) ∙ c .before .before .bad-free .ensures)
-    (search (tests, needs) depth 12)
+    let at-if1 = c .before .before in
+    rw (c .refusal2 .ensures)
+    (pick-no _ _ _ _ (sym (at-if1 .if1 .left) ∙ at-if1 .before .bad-free .ensures)
+    (search (tests, needs) depth 12))
 
 edge-requires : tie.Need-edge-requires
 edge-requires c κs = let h =
@@ -58,7 +70,9 @@ take-first-spec =
     tie.close
     (tie.spec
     bad-free-requires
+    refusal-requires
     returns
+    refusal-requires-2
     returns-2
     edge-requires
     take-next-requires

@@ -1,3 +1,5 @@
+-- The tests stand in the definition's order. An edge of the free list that is not bad leads into
+-- the table, so both colours can be read and both nodes shaded.
 use mathlib.Core.Path.{refl, sym, _∙_}
 use native.Mathlib.Omega.{arith}
 use borrow.Author.Needs.{needs}
@@ -11,18 +13,28 @@ use Rattle.take.proofs.take_next.Tie as tie
 bad-free-requires : tie.Need-bad-free-requires
 bad-free-requires c κs = search needs
 
+refusal-requires : tie.Need-refusal-requires
+refusal-requires c κs = search needs
+
 returns : tie.Need-returns
 unfolding takeNext
-returns c = pick-yes _ _ _ _ (sym (c .if1 .taken) ∙ c .before .bad-free .ensures) refl
+returns c =
+    rw (c .refusal .ensures)
+    (pick-yes _ _ _ _ (sym (c .before .if1 .taken) ∙ c .before .before .bad-free .ensures) refl)
 
 slice-read-if2 : tie.Need-slice-read-if2
 slice-read-if2 c = omega arith
 
+refusal-requires-2 : tie.Need-refusal-requires-2
+refusal-requires-2 c κs = search needs
+
 returns-2 : tie.Need-returns-2
 unfolding takeNext
 returns-2 c =
-    pick-no _ _ _ _ (sym (c .before .before .if1 .left)
-    ∙ c .before .before .before .bad-free .ensures) (search (tests, needs) depth 12)
+    let at-if1 = c .before .before .before in
+    rw (c .refusal2 .ensures)
+    (pick-no _ _ _ _ (sym (at-if1 .if1 .left) ∙ at-if1 .before .bad-free .ensures)
+    (search (tests, needs) depth 12))
 
 relink-requires : tie.Need-relink-requires
 relink-requires c κs = omega arith
@@ -59,12 +71,16 @@ slice-read-if4 c = let h =
     fine-free _ _ _ (sym (c .before .before .before .before .if1 .left)
     ∙ c .before .before .before .before .before .bad-free .ensures) in omega arith
 
+refusal-requires-3 : tie.Need-refusal-requires-3
+refusal-requires-3 c κs = search needs
+
 returns-4 : tie.Need-returns-4
 unfolding takeNext
 returns-4 c =
-    let at-bad-free = c .before .before .before .before .before .before in
-    pick-no _ _ _ _ (sym (c .before .before .before .before .before .if1 .left)
-    ∙ at-bad-free .bad-free .ensures) (search (tests, needs) depth 12)
+    let at-if1 = c .before .before .before .before .before .before in
+    rw (c .refusal3 .ensures)
+    (pick-no _ _ _ _ (sym (at-if1 .if1 .left) ∙ at-if1 .before .bad-free .ensures)
+    (search (tests, needs) depth 12))
 
 relink-requires-2 : tie.Need-relink-requires-2
 relink-requires-2 c κs = omega arith
@@ -110,8 +126,10 @@ take-next-spec =
     tie.close
     (tie.spec
     bad-free-requires
+    refusal-requires
     returns
     slice-read-if2
+    refusal-requires-2
     returns-2
     relink-requires
     with-last-requires
@@ -120,6 +138,7 @@ take-next-spec =
     same-length-3
     returns-3
     slice-read-if4
+    refusal-requires-3
     returns-4
     relink-requires-2
     shade-node-requires

@@ -1,3 +1,4 @@
+-- The test for the last node picks one of the definition's two records.
 use borrow.Author.Needs.{needs}
 use Rattle.base.proofs.Tests.{tests}
 use Rattle.rules.specs.Records.{afterAppend}

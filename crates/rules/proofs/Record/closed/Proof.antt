@@ -1,3 +1,4 @@
+-- The fields stored are those that the definition sets; `one_more` gives the cycles.
 use borrow.Author.Needs.{needs}
 use Rattle.rules.proofs.Record.closed.Statement.{statement}
 use Rattle.rules.proofs.Record.closed.Tie as tie
