@@ -14,7 +14,8 @@ Held n = n .cycles ≤ 4294967295
 
 one-held : (n : ℕ) → n ≤ 4294967295 → oneMore n ≤ 4294967295
 unfolding oneMore
-one-held n h = split (λ (k : ℕ). k ≤ 4294967295) _ _ _ (λ q. omega (arith, ltb-true n 4294967295 q)) (λ q. h)
+one-held n h =
+    split (λ (k : ℕ). k ≤ 4294967295) _ _ _ (λ q. omega (arith, ltb-true n 4294967295 q)) (λ q. h)
 
 step-held : (t : Told) (c : Step) (n : Count) → Held n → Held (counted t c n)
 unfolding counted
