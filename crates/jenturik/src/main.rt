@@ -6,7 +6,7 @@
 use transcript::Session;
 ghost use Prim.Native.Nat.{_≤_};
 ghost use lib.ListN.{length};
-ghost use Rattle.rules.specs.Lent.{was, is};
+ghost use Rattle.base.specs.Lent.{was, is};
 
 // A block of the input, and an output with room for its answers: a line has at least its newline,
 // an answer at most 22 bytes.
