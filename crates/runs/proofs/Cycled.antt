@@ -5,17 +5,18 @@ use native.Mathlib.Omega.{arith}
 use borrow.Author.Tests.{ltb-true}
 use Rattle.base.proofs.Tests.{split}
 use Rattle.rules.specs.Table.{State}
-use Rattle.rules.specs.Records.{oneMore}
+use Rattle.rules.specs.Records.{mostCycles, oneMore}
 use Rattle.rules.specs.declared.Step.{Step}
 use Rattle.runs.specs.Runs.{Count, Told, told, counted, count, after}
 
 abbrev pub Held : Count → Type 0
-Held n = n .cycles ≤ 4294967295
+Held n = n .cycles ≤ mostCycles
 
-one-held : (n : ℕ) → n ≤ 4294967295 → oneMore n ≤ 4294967295
+one-held : (n : ℕ) → n ≤ mostCycles → oneMore n ≤ mostCycles
 unfolding oneMore
 one-held n h =
-    split (λ (k : ℕ). k ≤ 4294967295) _ _ _ (λ q. omega (arith, ltb-true n 4294967295 q)) (λ q. h)
+    split (λ (k : ℕ). k ≤ mostCycles) _ _ _ (λ q. omega (arith, ltb-true n mostCycles q))
+    (λ q. omega arith)
 
 step-held : (t : Told) (c : Step) (n : Count) → Held n → Held (counted t c n)
 unfolding counted
