@@ -4,8 +4,11 @@ use rules::Phase;
 use rules::Record;
 ghost use mathlib.Core.Path.{_≡_};
 ghost use mathlib.Core.Bool.{true};
+ghost use mathlib.Core.List.{[], _∷_};
+ghost use lib.Dec.{leb};
+ghost use Rattle.base.specs.Choice.{every};
 ghost use Rattle.words.specs.Words.{tagOf, kOf, owesOf, owedOf, laidOut, wordsOf, phaseOf};
-ghost use Rattle.words.specs.Words.{shadeOf, pickedUp, recordOf, most, within, flagged};
+ghost use Rattle.words.specs.Words.{shadeOf, pickedUp, recordOf, within, flagged};
 ghost use Rattle.words.specs.Words.{isRecord, Within, WORDS};
 
 // How many words there are, and the number of each, by the names of include/jenturik.h.
@@ -127,48 +130,50 @@ pub fn words_of(x: Record) -> [u32; WORDS]
     laid_out(x, tag(p), rules::position(p), rest(p), owes(o), owed(o))
 }
 
-// The most that each word may be: 0 for those that have no use.
-fn most() -> [u32; WORDS]
-    ensures { λ w. ⌜ w ≡ most ⌝ }
+// Whether four numbers are at most top.
+fn at_most(top: u32, a: u32, b: u32, c: u32, d: u32) -> bool
+    ensures { λ ok. ⌜ ok ≡ every (leb a top ∷ leb b top ∷ leb c top ∷ leb d top ∷ []) ⌝ }
 {
-    [
-        65535,
-        65535,
-        5,
-        65535,
-        65535,
-        1,
-        65535,
-        65535,
-        4294967295,
-        4294967295,
-        4294967295,
-        65535,
-        65535,
-        0,
-        0,
-        0,
-        0,
-        0,
-        0,
-        0,
-        0,
-        0,
-        0,
-        0,
-    ]
+    if top < a {
+        return false;
+    }
+    if top < b {
+        return false;
+    }
+    if top < c {
+        return false;
+    }
+    d <= top
 }
 
+// Whether each word has its width. The words are tested one by one: a loop would be made to load
+// several at once, which waits for the single words that the call before has stored.
 fn within(w: [u32; WORDS]) -> bool
     ensures { λ ok. ⌜ ok ≡ within w WORDS ⌝ }
 {
-    let top = most();
-    let mut n = 0;
-    while n < WORDS {
-        if top[n] < w[n] {
-            return false;
-        }
-        n += 1;
+    if 5 < w[PHASE] {
+        return false;
+    }
+    if 1 < w[OWES] {
+        return false;
+    }
+    if !at_most(65535, w[I], w[K], w[OWED], w[LAST]) {
+        return false;
+    }
+    if !at_most(65535, w[NODES], w[SLOTS], w[BLACKENED], w[IN_USE]) {
+        return false;
+    }
+    if !at_most(4294967295, w[STEPS], w[CYCLES], w[TOOK], 0) {
+        return false;
+    }
+    if !at_most(0, w[13], w[14], w[15], w[16]) {
+        return false;
+    }
+    if !at_most(0, w[17], w[18], w[19], w[20]) {
+        return false;
+    }
+    if !at_most(0, w[21], w[22], w[23], 0) {
+        return false;
     }
     true
 }
