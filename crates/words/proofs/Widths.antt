@@ -78,7 +78,7 @@ four-hold top a b c d h =
     (every-skip _ _ _ (le-yes _ _ (h .2)) (every-last _ _ (le-yes _ _ (h .3)))))
 
 -- the words' widths in the order in which they are tested
-abbrev pub Tested : List ℕ → Type 0
+abbrev Tested : List ℕ → Type 0
 Tested w =
     (word w PHASE ≤ 5) × (word w OWES ≤ 1)
     × AtMost 65535 (word w I) (word w K) (word w OWED) (word w LAST)
@@ -90,15 +90,25 @@ Tested w =
 
 pub all-pass : (w : List ℕ) → Tested w → true ≡ within w WORDS
 all-pass w t =
-    let a : Within w 7 = (((((((tt, t .3 .0), t .3 .1), t .0), t .2 .0), t .2 .1), t .1), t .2 .2) in
-    let b : Within w 13 = ((((((a, t .2 .3), t .4 .0), t .4 .1), t .4 .2), t .3 .2), t .3 .3) in
-    let c : Within w 19 = ((((((b, t .5 .0), t .5 .1), t .5 .2), t .5 .3), t .6 .0), t .6 .1) in
-    tests-of w WORDS (((((c, t .6 .2), t .6 .3), t .7 .0), t .7 .1), t .7 .2)
+    let a : Within w 6 = ((((((tt, t .3 .0), t .3 .1), t .0), t .2 .0), t .2 .1), t .1) in
+    let b : Within w 8 = ((a, t .2 .2), t .2 .3) in
+    let c : Within w 13 = (((((b, t .4 .0), t .4 .1), t .4 .2), t .3 .2), t .3 .3) in
+    let d : Within w 19 = ((((((c, t .5 .0), t .5 .1), t .5 .2), t .5 .3), t .6 .0), t .6 .1) in
+    tests-of w WORDS (((((d, t .6 .2), t .6 .3), t .7 .0), t .7 .1), t .7 .2)
 
 passed : (w : List ℕ) → Within w WORDS → Tested w
-passed w h = (omega arith, omega arith, (omega arith, omega arith, omega arith, omega arith), (omega arith, omega arith, omega arith, omega arith), (omega arith, omega arith, omega arith, omega arith), (omega arith, omega arith, omega arith, omega arith), (omega arith, omega arith, omega arith, omega arith), (omega arith, omega arith, omega arith, omega arith))
+passed w h = (
+  omega arith,
+  omega arith,
+  (omega arith, omega arith, omega arith, omega arith),
+  (omega arith, omega arith, omega arith, omega arith),
+  (omega arith, omega arith, omega arith, omega arith),
+  (omega arith, omega arith, omega arith, omega arith),
+  (omega arith, omega arith, omega arith, omega arith),
+  (omega arith, omega arith, omega arith, omega arith),
+)
 
--- four words' test fails only where a word exceeds its width
+-- the test of four words fails only where one exceeds its width
 pub four-no : (w : List ℕ) (top a b c d : ℕ) (r : Bool) → r ≡ every (Four top a b c d)
     → not r ≡ true → (Tested w → AtMost top a b c d) → false ≡ within w WORDS
 four-no w top a b c d r e q f = go (within w WORDS) refl

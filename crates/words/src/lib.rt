@@ -146,8 +146,9 @@ fn at_most(top: u32, a: u32, b: u32, c: u32, d: u32) -> bool
     d <= top
 }
 
-// Whether each word has its width. The words are tested one by one: a loop would be made to load
-// several at once, which waits for the single words that the call before has stored.
+// Whether each word has its width; those from 13 on have no use. They are tested by name, not in a
+// loop: the compiler would make it load four words at once, which waits until the words that the
+// call before stored one by one are in memory.
 fn within(w: [u32; WORDS]) -> bool
     ensures { λ ok. ⌜ ok ≡ within w WORDS ⌝ }
 {
