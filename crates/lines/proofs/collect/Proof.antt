@@ -1,3 +1,5 @@
+-- A count of 0 is the empty schedule, which judges codes 1 and 2; any other count is what
+-- `collect_some` promises.
 use borrow.Author.Needs.{needs}
 use Rattle.lines.proofs.Collects.{nothing}
 use Rattle.lines.proofs.collect.Statement.{statement}

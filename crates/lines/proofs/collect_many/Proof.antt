@@ -1,3 +1,4 @@
+-- The batch's contract is the schedule of n collector steps; its answer's code is the schedule's.
 use borrow.Author.Needs.{needs}
 use Rattle.lines.proofs.collect_many.Statement.{statement}
 use Rattle.lines.proofs.collect_many.Tie as tie

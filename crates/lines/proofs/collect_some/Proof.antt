@@ -1,3 +1,5 @@
+-- All steps but the last, then the last, are the schedule of all; where the first part is refused,
+-- nothing follows, as in the definition.
 use native.Mathlib.Omega.{arith}
 use borrow.Author.Needs.{needs}
 use Rattle.rules.specs.Records.{position}

@@ -1,3 +1,4 @@
+-- What the line says decides, by the definition's cases, and each case is one call's contract.
 use borrow.Author.Needs.{needs}
 use Rattle.lines.specs.Lines.{answered, later}
 use Rattle.lines.proofs.later.Statement.{statement}

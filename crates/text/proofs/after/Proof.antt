@@ -1,3 +1,5 @@
+-- Each turn compares one byte of the word, so what is left of the word at the next position says
+-- the same as the whole at the first; a byte that differs loses it.
 use Prim.Native.Nat.{_-_}
 use mathlib.Core.Path.{_≡_, refl, sym, _∙_}
 use lib.ListN.{length, drop}

@@ -1,3 +1,4 @@
+-- The digits are put from the highest on, each by its contract, the last one always.
 use borrow.Author.Needs.{needs}
 use Rattle.text.specs.Answers.{decimal, put, putAll}
 use Rattle.text.proofs.Outputs.{put-append}

@@ -1,3 +1,4 @@
+-- A digit is put unless it is a leading zero, by the definition's test.
 use borrow.Author.Needs.{needs}
 use Rattle.base.specs.Choice.{pick}
 use Rattle.text.specs.Answers.{digitOf, put, putAll}

@@ -1,3 +1,5 @@
+-- Each turn reads one digit as the definition does, with one fewer to come; the number stays below
+-- a power of ten, so it fits.
 use Prim.Native.Nat.{_-_, _≤_, _<_, _^_}
 use mathlib.Core.Path.{_≡_, refl, sym, _∙_}
 use native.Mathlib.Omega.{arith}

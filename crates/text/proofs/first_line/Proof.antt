@@ -1,3 +1,4 @@
+-- The form is two words, each with its number behind it, as in the definition.
 use borrow.Author.Needs.{needs}
 use Rattle.text.specs.Grammar.{after, firstLine}
 use Rattle.text.proofs.first_line.Statement.{statement}

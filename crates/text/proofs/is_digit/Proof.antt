@@ -1,3 +1,4 @@
+-- The two tests are the definition's, in its order.
 use borrow.Author.Needs.{needs}
 use Rattle.base.proofs.Tests.{tests}
 use Rattle.text.specs.Grammar.{isDigit}

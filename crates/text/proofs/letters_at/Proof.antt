@@ -1,3 +1,5 @@
+-- Each turn reads one letter as the definition does and keeps word and bit below 4,096, so nothing
+-- overflows; the first byte that is no letter ends it.
 use Prim.Native.Nat.{_+_, _≤_, _<_}
 use mathlib.Core.Path.{_≡_, refl, sym, _∙_}
 use native.Mathlib.Omega.{arith}

@@ -1,3 +1,5 @@
+-- The form is a straight line of pieces, in code and in definition; so it is the pieces' contracts
+-- in a row.
 use borrow.Author.Needs.{needs}
 use Rattle.text.specs.Grammar.{after, linkLine}
 use Rattle.text.proofs.link_line.Statement.{statement}

@@ -1,3 +1,5 @@
+-- The tests for a digit, for a leading zero and for an eighth digit are the definition's, around
+-- the digits that were read.
 use mathlib.Core.Path.{_∙_}
 use native.Mathlib.Omega.{arith}
 use borrow.Author.Needs.{needs}

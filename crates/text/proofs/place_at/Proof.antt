@@ -1,3 +1,5 @@
+-- The pieces are read one behind the other, each where the one before ended, as the definition puts
+-- them together.
 use borrow.Author.Needs.{needs}
 use Rattle.text.specs.Grammar.{after, placeAt}
 use Rattle.text.proofs.place_at.Statement.{statement}

@@ -1,3 +1,4 @@
+-- There is room or there is not; with room the byte is stored where the definition has it.
 use borrow.Author.Needs.{needs}
 use Rattle.base.proofs.Tests.{tests}
 use Rattle.text.specs.Answers.{put}

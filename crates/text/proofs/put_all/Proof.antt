@@ -1,3 +1,5 @@
+-- Each turn puts one byte, so the bytes that are left, put behind those that are there, make the
+-- same output as all of them at first.
 use Prim.Native.Nat.{_-_}
 use mathlib.Core.Path.{_≡_, refl, sym, _∙_}
 use lib.ListN.{length, drop}

@@ -1,3 +1,5 @@
+-- After the length, the forms are tried in the definition's order; one that ends where the line
+-- does is what the line says.
 use mathlib.Core.Path.{refl}
 use borrow.Author.Needs.{needs}
 use Rattle.base.proofs.Tests.{tests, pick-yes, pick-no, eq-yes, eq-no, lt-no}

@@ -1,3 +1,4 @@
+-- The line is its pieces, put one behind the other, as the definition joins them.
 use borrow.Author.Needs.{needs}
 use Rattle.text.specs.Answers.{decimal, said, put, putAll}
 use Rattle.text.proofs.Outputs.{put-append}

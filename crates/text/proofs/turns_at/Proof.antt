@@ -1,3 +1,5 @@
+-- A dash is no turns, a first byte that is no letter is lost, and else the letters are read: the
+-- definition's three cases.
 use native.Mathlib.Omega.{arith}
 use borrow.Author.Needs.{needs}
 use Rattle.base.proofs.Tests.{tests, pick-no, eq-no}

@@ -1,3 +1,5 @@
+-- The line at hand is answered by `later_of`, its answer is put by `say`, and the next line begins
+-- empty: the definition's three parts.
 use borrow.Author.Needs.{needs}
 use Rattle.transcript.specs.Feeding.{ended}
 use Rattle.transcript.proofs.ended.Statement.{statement}

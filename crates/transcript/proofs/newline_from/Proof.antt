@@ -1,3 +1,5 @@
+-- Each turn passes one byte that is no newline, so the search from the next position finds the
+-- same.
 use Prim.Native.Nat.{_-_}
 use mathlib.Core.Path.{_≡_, refl, sym, _∙_}
 use lib.ListN.{length, drop}

@@ -1,3 +1,5 @@
+-- The bytes up to the newline are gathered, and with the newline the line is ended, as the
+-- definition does for the bytes one by one.
 use mathlib.Core.Path.{refl}
 use native.Mathlib.Omega.{arith}
 use borrow.Author.Needs.{needs}
