@@ -1,10 +1,14 @@
-/* The frame loop of a made-up viewer. It draws the glazing of a hotel's lobby, 24 panes, while two designers change it.
+/* The frame loop of a made-up viewer. It draws the glazing of a hotel's lobby, 24 panes, while two
+ * designers change it.
  *
- * Each pane is a slot: a fixed node with two edges. On its left edge hangs the pane's glass, a chain of layers by their left edges, the outermost
- * first; on the right edge of a layer hangs its tint. On the pane's right edge hangs what it mirrors: the outermost layer of the pane beside it. So
- * a layer can be seen from two panes, and nobody knows when it is seen from none. The collector finds out, a thousand steps each frame.
+ * Each pane is a slot: a fixed node with two edges. On its left edge hangs the pane's glass, a
+ * chain of layers by their left edges, the outermost first; on the right edge of a layer hangs its
+ * tint. On the pane's right edge hangs what it mirrors: the outermost layer of the pane beside it.
+ * So a layer can be seen from two panes, and nobody knows when it is seen from none. The collector
+ * finds out, a thousand steps each frame.
  *
- * Time is counted in frames, 60 a second, so that the output is the same everywhere: it is examples/viewer.out.
+ * Time is counted in frames, 60 a second, so that the output is the same everywhere: it is
+ * examples/viewer.out.
  */
 #include "jenturik.h"
 #include <stdio.h>
@@ -12,8 +16,9 @@
 
 enum {
     PANES = 24,
-    BENCH = PANES,    /* a slot for a layer that is being made */
-    BARE = PANES + 1, /* a slot that nothing is ever hung on: its left edge is a place where nothing is */
+    BENCH = PANES, /* a slot for a layer that is being made */
+    BARE = PANES +
+           1, /* a slot that nothing is ever hung on: its left edge is a place where nothing is */
     SLOTS = PANES + 2,
     NODES = 384,
     FRAMES = 60, /* a second */
@@ -29,12 +34,14 @@ static uint8_t colour[NODES];
 static uint32_t words[JENTURIK_WORDS];
 #define TABLE left, NODES, right, NODES, colour, NODES, words
 
-/* What a node means is ours to keep, under its number: the light that a layer or a tint lets through, in percent. */
+/* What a node means is ours to keep, under its number: the light that a layer or a tint lets
+ * through, in percent. */
 static uint8_t clear[NODES];
 
 static unsigned taken, refused;
 
-/* Places: where to find a node. A slot, a number of turns, and the turns as bits, the first lowest: 0 left, 1 right. Each is three arguments. */
+/* Places: where to find a node. A slot, a number of turns, and the turns as bits, the first lowest:
+ * 0 left, 1 right. Each is three arguments. */
 #define PANE(p) (p), 0, 0  /* the pane's own node */
 #define GLASS(p) (p), 1, 0 /* one turn left: the pane's outermost layer */
 #define NOTHING BARE, 1, 0
@@ -47,14 +54,18 @@ static uint32_t below(uint32_t n) {
 }
 
 static void stop(const char *call, uint32_t code, uint32_t node) {
-    const char *why = code == JENTURIK_BAD_SIZE || code == JENTURIK_BAD_RECORD || code == JENTURIK_DAMAGED
-                          ? "something else has written into the table" /* once there is a table, these three cannot come otherwise */
-                          : "the viewer asked for what it must not";
-    fprintf(stderr, "viewer: %s: code %u, node %u: %s\n", call, (unsigned)code, (unsigned)node, why);
+    const char *why =
+        code == JENTURIK_BAD_SIZE || code == JENTURIK_BAD_RECORD || code == JENTURIK_DAMAGED
+            ? "something else has written into the table" /* once there is a table, these three
+                                                             cannot come otherwise */
+            : "the viewer asked for what it must not";
+    fprintf(stderr, "viewer: %s: code %u, node %u: %s\n", call, (unsigned)code, (unsigned)node,
+            why);
     exit(1);
 }
 
-/* Points an edge to a node, and pays the shade that is then owed. The collector may step between the two; no other link or take may come. */
+/* Points an edge to a node, and pays the shade that is then owed. The collector may step between
+ * the two; no other link or take may come. */
 #define LINK(source, side, target) linked(jenturik_link(TABLE, source, side, target))
 
 static void linked(jenturik_told a) {
@@ -63,7 +74,8 @@ static void linked(jenturik_told a) {
     if (a.code != JENTURIK_DONE) stop("shade", a.code, a.node);
 }
 
-/* Takes a node for a new material and hangs it on an edge. Answers 0 where no node is free: the caller tries again in the next frame. */
+/* Takes a node for a new material and hangs it on an edge. Answers 0 where no node is free: the
+ * caller tries again in the next frame. */
 #define TAKE(source, side, light) hung(jenturik_take(TABLE, source, side), light)
 
 static int hung(jenturik_told a, uint32_t light) {
@@ -98,10 +110,12 @@ static struct edit arriving(void) {
     return e;
 }
 
-/* Makes an edit; answers 0 where it must wait for a free node. What it lets go needs no call: the collector finds it. */
+/* Makes an edit; answers 0 where it must wait for a free node. What it lets go needs no call: the
+ * collector finds it. */
 static int make(struct edit e) {
     switch (e.kind) {
-    case COAT: /* a new layer, on the bench first; then the old glass behind it, then all of it into the pane; the bench lets it go at the next coat */
+    case COAT: /* a new layer, on the bench first; then the old glass behind it, then all of it into
+                  the pane; the bench lets it go at the next coat */
         if (!TAKE(PANE(BENCH), LEFT, e.light)) return 0;
         LINK(GLASS(BENCH), LEFT, GLASS(e.pane));
         LINK(PANE(e.pane), LEFT, GLASS(BENCH));
@@ -117,7 +131,8 @@ static int make(struct edit e) {
     }
 }
 
-/* The designers' edits of a frame. One that must wait is kept, with those behind it, for the next frame. */
+/* The designers' edits of a frame. One that must wait is kept, with those behind it, for the next
+ * frame. */
 static void edit(int edits) {
     static struct edit next;
     static int waiting;
@@ -128,8 +143,8 @@ static void edit(int edits) {
     }
 }
 
-/* Draws the frame: the light that comes through, in percent, over all panes. The arrays are ours, and may be read
- * between two calls; pane p is node p + 2. */
+/* Draws the frame: the light that comes through, in percent, over all panes. The arrays are ours,
+ * and may be read between two calls; pane p is node p + 2. */
 static unsigned draw(void) {
     unsigned sum = 0;
     for (unsigned pane = 0; pane < PANES; pane++) {
@@ -153,20 +168,25 @@ static unsigned count_free(void) {
 
 int main(void) {
     jenturik_told made = jenturik_fresh(TABLE, NODES, SLOTS);
-    if (made.code != JENTURIK_DONE) return fputs("viewer: NODES or SLOTS is out of range\n", stderr), 1;
-    printf("The lobby's glazing: %d panes, %d nodes, %d collector steps a frame.\n", PANES, NODES, BUDGET);
+    if (made.code != JENTURIK_DONE)
+        return fputs("viewer: NODES or SLOTS is out of range\n", stderr), 1;
+    printf("The lobby's glazing: %d panes, %d nodes, %d collector steps a frame.\n", PANES, NODES,
+           BUDGET);
     puts("Marked are the nodes that the last cycle's marking reached, free ones among them.");
     for (int frame = 1; frame <= SECONDS * FRAMES; frame++) {
         int second = (frame - 1) / FRAMES + 1;
-        if (frame == 4 * FRAMES + 1) puts("The client comes at six: both designers try every look that they have.");
+        if (frame == 4 * FRAMES + 1)
+            puts("The client comes at six: both designers try every look that they have.");
         if (frame == 8 * FRAMES + 1) puts("The client likes the third.");
         edit(second >= 5 && second <= 8 ? 30 : 3);
         jenturik_last steps = jenturik_collect_many(TABLE, BUDGET);
         if (steps.code != JENTURIK_DONE) stop("collect_many", steps.code, steps.node);
         unsigned light = draw();
         if (frame % FRAMES == 0)
-            printf("second %2d: frame %3d, %3u marked, %3u free, %3u cycles, %4u taken, %3u refused, light %2u%%\n", second, frame,
-                   (unsigned)words[JENTURIK_IN_USE], count_free(), (unsigned)words[JENTURIK_CYCLES], taken, refused, light);
+            printf("second %2d: frame %3d, %3u marked, %3u free, %3u cycles, %4u taken, %3u "
+                   "refused, light %2u%%\n",
+                   second, frame, (unsigned)words[JENTURIK_IN_USE], count_free(),
+                   (unsigned)words[JENTURIK_CYCLES], taken, refused, light);
     }
     return 0;
 }

@@ -1,15 +1,37 @@
-/* The exported calls by number, each with arguments that a sound table accepts, so that a test can try all of them alike. jenturik_fresh is apart. */
+/* The exported calls by number, each with arguments that a sound table accepts, so that a test can
+ * try all of them alike. jenturik_fresh is apart. */
 #ifndef CALLS_H
 #define CALLS_H
 
 #include "table.h"
 
-enum { LOOK, LINK, SHADE, TAKE, COLLECT, MANY, MANY_NONE, SCHEDULE, SCHEDULE_EMPTY, SCHEDULE_RAGGED, CALLS };
+enum {
+    LOOK,
+    LINK,
+    SHADE,
+    TAKE,
+    COLLECT,
+    MANY,
+    MANY_NONE,
+    SCHEDULE,
+    SCHEDULE_EMPTY,
+    SCHEDULE_RAGGED,
+    CALLS
+};
 
-static const char *const call_names[CALLS] = {"look", "link", "shade", "take", "collect", "collect_many", "collect_many of none", "schedule",
-                                              "schedule of no steps", "schedule of ragged length"};
+static const char *const call_names[CALLS] = {"look",
+                                              "link",
+                                              "shade",
+                                              "take",
+                                              "collect",
+                                              "collect_many",
+                                              "collect_many of none",
+                                              "schedule",
+                                              "schedule of no steps",
+                                              "schedule of ragged length"};
 
-/* What any of the calls answers; done is 0 or 1 where the call is of one step, and what and node are 0 for a schedule. */
+/* What any of the calls answers; done is 0 or 1 where the call is of one step, and what and node
+ * are 0 for a schedule. */
 typedef struct {
     size_t done;
     uint32_t what, code, node;
@@ -29,26 +51,38 @@ static inline answer of_last(jenturik_last a) {
 
 /* A schedule of so many words: a collector step, a look at slot 0, and a word too many. */
 static inline answer call_schedule(lent *t, size_t numbers) {
-    static const uint32_t words[17] = {3, 0, 0, 0, 0, 0, 0, 0, 4, 0, 0, 0, 0, 0, 0, 0, 3};
+    static const uint32_t words[2 * JENTURIK_STEP_WORDS + 1] = {
+        [0] = 3, [JENTURIK_STEP_WORDS] = 4, [2 * JENTURIK_STEP_WORDS] = 3};
     uint32_t *steps = fence_lay(&call_steps, words, 4 * numbers, 1);
     jenturik_done d = jenturik_schedule(LENT(t), steps, numbers);
-    if (!fence_kept(&call_steps) || (numbers != 0 && memcmp(steps, words, 4 * numbers) != 0)) fence_fail("the steps were written");
+    if (!fence_kept(&call_steps) || (numbers != 0 && memcmp(steps, words, 4 * numbers) != 0))
+        fence_fail("the steps were written");
     answer all = {d.done, 0, d.code, 0};
     return all;
 }
 
 static inline answer call(lent *t, int which) {
     switch (which) {
-    case LOOK: return of_told(jenturik_look(LENT(t), 0, 0, 0));
-    case LINK: return of_told(jenturik_link(LENT(t), 0, 0, 0, 0, 0, 0, 0));
-    case SHADE: return of_told(jenturik_shade(LENT(t)));
-    case TAKE: return of_told(jenturik_take(LENT(t), 0, 0, 0, 0));
-    case COLLECT: return of_told(jenturik_collect(LENT(t)));
-    case MANY: return of_last(jenturik_collect_many(LENT(t), 3));
-    case MANY_NONE: return of_last(jenturik_collect_many(LENT(t), 0));
-    case SCHEDULE: return call_schedule(t, 16);
-    case SCHEDULE_EMPTY: return call_schedule(t, 0);
-    default: return call_schedule(t, 17);
+    case LOOK:
+        return of_told(jenturik_look(LENT(t), 0, 0, 0));
+    case LINK:
+        return of_told(jenturik_link(LENT(t), 0, 0, 0, 0, 0, 0, 0));
+    case SHADE:
+        return of_told(jenturik_shade(LENT(t)));
+    case TAKE:
+        return of_told(jenturik_take(LENT(t), 0, 0, 0, 0));
+    case COLLECT:
+        return of_told(jenturik_collect(LENT(t)));
+    case MANY:
+        return of_last(jenturik_collect_many(LENT(t), 3));
+    case MANY_NONE:
+        return of_last(jenturik_collect_many(LENT(t), 0));
+    case SCHEDULE:
+        return call_schedule(t, 2 * JENTURIK_STEP_WORDS);
+    case SCHEDULE_EMPTY:
+        return call_schedule(t, 0);
+    default:
+        return call_schedule(t, 2 * JENTURIK_STEP_WORDS + 1);
     }
 }
 

@@ -1,4 +1,5 @@
-/* What every call must refuse: null arrays, wrong lengths, words that are no record, records out of range, and jenturik_fresh's sizes.
+/* What every call must refuse: null arrays [C 11], wrong lengths [Codes 1], words that are no
+ * record [C 4], records out of range [Codes 2], and jenturik_fresh's sizes [Fresh 7].
  * The last line is 'N passed, M failed'. */
 #define _DEFAULT_SOURCE
 #include "trial.h"
@@ -16,20 +17,23 @@ static void set_phase(table *s, uint32_t phase, uint32_t owes) {
     s->words[JENTURIK_OWED] = 2 * owes;
 }
 
-/* Whether a call on the bad table is refused with the code, tells nothing else and changes nothing, whichever page the arrays lie against. */
+/* Whether a call on the bad table is refused with the code, tells nothing else and changes nothing,
+ * whichever page the arrays lie against. */
 static int refuses(int which, uint32_t code) {
     int good = 1;
     for (int high = 0; high < 2; high++) {
         lend(&t, &bad, high);
         answer a = call(&t, which);
         take_back(&t, &after);
-        good = good && a.code == code && a.what == 0 && a.node == 0 && a.done == 0 && same(&bad, &after);
+        good = good && a.code == code && a.what == 0 && a.node == 0 && a.done == 0 &&
+               same(&bad, &after);
     }
     return good;
 }
 
 static void all_refuse(uint32_t code, const char *why, long n) {
-    for (int which = 0; which < CALLS; which++) check(refuses(which, code), why, call_names[which], n);
+    for (int which = 0; which < CALLS; which++)
+        check(refuses(which, code), why, call_names[which], n);
 }
 
 static void nulls(void) {
@@ -39,7 +43,7 @@ static void nulls(void) {
         if (which == 1 || which == 3) bad.rights = 0;
         if (which == 2 || which == 3) bad.colours = 0;
         all_refuse(1, "null and length 0", which);
-        bad.words[15] = 1;
+        bad.words[JENTURIK_WORDS - 1] = 1;
         all_refuse(2, "null and length 0, words that are no record", which);
     }
     memset(bad.words, 0, sizeof bad.words);
@@ -53,7 +57,8 @@ static void lengths(void) {
         bad = sound, bad.rights = wrong[i], all_refuse(1, "right's length", (long)wrong[i]);
         bad = sound, bad.colours = wrong[i], all_refuse(1, "colour's length", (long)wrong[i]);
         bad.lefts = bad.rights = wrong[i], all_refuse(1, "all lengths", (long)wrong[i]);
-        bad.words[JENTURIK_OWES] = 2, all_refuse(2, "all lengths, words that are no record", (long)wrong[i]);
+        bad.words[JENTURIK_OWES] = 2,
+        all_refuse(2, "all lengths, words that are no record", (long)wrong[i]);
     }
 }
 
@@ -85,7 +90,8 @@ static void words_of_phase(uint32_t phase, uint32_t owes) {
     put_word(JENTURIK_OWES, UINT32_MAX, 2);
     if (phase != 1) put_word(JENTURIK_K, 1, 2), put_word(JENTURIK_K, 65535, 2);
     if (owes == 0) put_word(JENTURIK_OWED, 1, 2), put_word(JENTURIK_OWED, 2, 2);
-    for (int word = 13; word < JENTURIK_WORDS; word++) put_word(word, 1, 2), put_word(word, BIG, 2), put_word(word, UINT32_MAX, 2);
+    for (int word = JENTURIK_USED; word < JENTURIK_WORDS; word++)
+        put_word(word, 1, 2), put_word(word, BIG, 2), put_word(word, UINT32_MAX, 2);
 }
 
 /* Records that the words can hold, with a number out of its range. */
@@ -93,8 +99,10 @@ static void numbers_of_phase(uint32_t phase) {
     const uint32_t bound = M * M + 5 * M + R + 2;
     bad = sound;
     set_phase(&bad, phase, 1);
-    put_word(JENTURIK_NODES, 0, 1), put_word(JENTURIK_NODES, M + 1, 1), put_word(JENTURIK_NODES, 65535, 1);
-    put_word(JENTURIK_SLOTS, 0, 1), put_word(JENTURIK_SLOTS, M - 1, 1), put_word(JENTURIK_SLOTS, 65535, 1);
+    put_word(JENTURIK_NODES, 0, 1), put_word(JENTURIK_NODES, M + 1, 1),
+        put_word(JENTURIK_NODES, 65535, 1);
+    put_word(JENTURIK_SLOTS, 0, 1), put_word(JENTURIK_SLOTS, M - 1, 1),
+        put_word(JENTURIK_SLOTS, 65535, 1);
     put_word(JENTURIK_I, phase == 0 ? R + 2 : M, 2), put_word(JENTURIK_I, 65535, 2);
     if (phase == 1) put_word(JENTURIK_K, 0, 2), put_word(JENTURIK_K, M + 1, 2);
     put_word(JENTURIK_OWED, 1, 2), put_word(JENTURIK_OWED, M, 2);
@@ -102,27 +110,37 @@ static void numbers_of_phase(uint32_t phase) {
     put_word(JENTURIK_BLACKENED, M + 1, 2), put_word(JENTURIK_IN_USE, M + 1, 2);
     put_word(JENTURIK_STEPS, bound, 2), put_word(JENTURIK_STEPS, UINT32_MAX, 2);
     put_word(JENTURIK_TOOK, bound + 1, 2), put_word(JENTURIK_TOOK, UINT32_MAX, 2);
-    bad.words[JENTURIK_CYCLES] = UINT32_MAX, bad.words[JENTURIK_STEPS] = bound - 1, bad.words[JENTURIK_TOOK] = bound;
+    bad.words[JENTURIK_CYCLES] = UINT32_MAX, bad.words[JENTURIK_STEPS] = bound - 1,
+    bad.words[JENTURIK_TOOK] = bound;
     lend(&t, &bad, 1);
-    check(jenturik_look(LENT(&t), 0, 0, 0).code == 0, "a record at its limits is accepted", "look", (long)phase);
+    check(jenturik_look(LENT(&t), 0, 0, 0).code == 0, "a record at its limits is accepted", "look",
+          (long)phase);
 }
 
 /* Whether words are a record's, by the header. */
 static int is_record(const uint32_t *w) {
-    int narrow = w[0] < BIG && w[1] < BIG && w[3] < BIG && w[4] < BIG && w[6] < BIG && w[7] < BIG && w[11] < BIG && w[12] < BIG;
-    int phase = w[2] <= 5 && (w[2] == 1 || w[4] == 0), owes = w[5] <= 1 && (w[5] == 1 || w[6] == 0);
-    return narrow && phase && owes && w[13] == 0 && w[14] == 0 && w[15] == 0;
+    int good = w[JENTURIK_PHASE] <= 5 && (w[JENTURIK_PHASE] == 1 || w[JENTURIK_K] == 0) &&
+               w[JENTURIK_OWES] <= 1 && (w[JENTURIK_OWES] == 1 || w[JENTURIK_OWED] == 0);
+    for (int i = 0; i < JENTURIK_USED; i++)
+        good = good && (w[i] < BIG || i == JENTURIK_STEPS || i == JENTURIK_CYCLES ||
+                        i == JENTURIK_TOOK);
+    for (int i = JENTURIK_USED; i < JENTURIK_WORDS; i++) good = good && w[i] == 0;
+    return good;
 }
 
-/* Random words: those that are no record's are refused with 2, and a refused call of either sort leaves them. */
+/* Random words: those that are no record's are refused with 2, and a refused call of either sort
+ * leaves them. */
 static void random_words(long count) {
-    static const uint32_t some[] = {0, 1, 2, 5, 6, M, 255, 256, 257, 65535, BIG, BIG + 1, BIG + 5, 0x80000000u, 0xffff0000u, UINT32_MAX};
+    static const uint32_t some[] = {0,       1,           2,           5,         6,   M,
+                                    255,     256,         257,         65535,     BIG, BIG + 1,
+                                    BIG + 5, 0x80000000u, 0xffff0000u, UINT32_MAX};
     int good = 1, kept = 1;
     bad = sound;
     for (long i = 0; i < count; i++) {
         memcpy(bad.words, sound.words, sizeof bad.words);
         set_phase(&bad, below(6), below(2));
-        for (uint32_t n = below(4); n > 0; n--) bad.words[below(16)] = below(2) ? some[below(16)] : below(9);
+        for (uint32_t n = below(4); n > 0; n--)
+            bad.words[below(JENTURIK_WORDS)] = below(2) ? some[below(16)] : below(9);
         lend(&t, &bad, (int)below(2));
         answer a = call(&t, (int)below(CALLS));
         take_back(&t, &after);
@@ -143,12 +161,14 @@ static void fresh_refuses(uint32_t nodes, uint32_t slots) {
         take_back(&t, &after);
         check(a.code == 1 && a.what == 0 && a.node == 0, "fresh refuses", "fresh", (long)nodes);
         memset(bad.words, 0, sizeof bad.words);
-        check(same(&bad, &after), "a refused fresh leaves the arrays, and the words are all 0", "fresh", (long)nodes);
+        check(same(&bad, &after), "a refused fresh leaves the arrays, and the words are all 0",
+              "fresh", (long)nodes);
     }
 }
 
 static void fresh_edges(void) {
-    static const uint32_t nodes[] = {0, 1, 2, 4097, 65535, BIG + M, 0xfffffff0u, UINT32_MAX}, slots[] = {0, 65, M - 1, M, BIG + 1, UINT32_MAX};
+    static const uint32_t nodes[] = {0, 1, 2, 4097, 65535, BIG + M, 0xfffffff0u, UINT32_MAX},
+                          slots[] = {0, 65, M - 1, M, BIG + 1, UINT32_MAX};
     bad = sound;
     for (size_t i = 0; i < 8; i++) fresh_refuses(nodes[i], 1);
     for (size_t i = 0; i < 6; i++) fresh_refuses(M, slots[i]);
@@ -156,13 +176,16 @@ static void fresh_edges(void) {
     bad = sound, bad.lefts = 0, fresh_refuses(M, R);
     bad = sound, bad.rights = M - 1, fresh_refuses(M, R);
     bad = sound, bad.colours = M + 1, fresh_refuses(M, R);
-    bad.lefts = bad.rights = bad.colours = 0, fresh_refuses(M, R), fresh_refuses(0, 0), fresh_refuses(0, 1);
+    bad.lefts = bad.rights = bad.colours = 0, fresh_refuses(M, R), fresh_refuses(0, 0),
+    fresh_refuses(0, 1);
     bad.lefts = bad.rights = bad.colours = 2, fresh_refuses(2, 1);
     bad.lefts = bad.rights = bad.colours = 4097, fresh_refuses(4097, 1);
     bad.lefts = bad.rights = bad.colours = 65, fresh_refuses(65, 64);
     bad.lefts = bad.rights = bad.colours = 67, fresh_refuses(67, 65);
-    make_fresh(&other, 66, 64), check(other.words[JENTURIK_LAST] == 1, "66 nodes and 64 slots: the free list is empty", "fresh", 66);
-    make_fresh(&other, 4096, 1), check(other.words[JENTURIK_LAST] == 4095, "4096 nodes", "fresh", 4096);
+    make_fresh(&other, 66, 64), check(other.words[JENTURIK_LAST] == 1,
+                                      "66 nodes and 64 slots: the free list is empty", "fresh", 66);
+    make_fresh(&other, 4096, 1),
+        check(other.words[JENTURIK_LAST] == 4095, "4096 nodes", "fresh", 4096);
 }
 
 int main(void) {
@@ -170,7 +193,8 @@ int main(void) {
     make_sound(&sound, M, R, 6);
     nulls();
     lengths();
-    for (uint32_t phase = 0; phase < 6; phase++) words_of_phase(phase, 0), words_of_phase(phase, 1), numbers_of_phase(phase);
+    for (uint32_t phase = 0; phase < 6; phase++)
+        words_of_phase(phase, 0), words_of_phase(phase, 1), numbers_of_phase(phase);
     random_words(20000);
     fresh_edges();
     return trial_close();

@@ -1,5 +1,6 @@
-/* Rooms for arrays lent to the library. A page that may be neither read nor written stands before and behind each room. An array lies against one of
- * the two pages; on its other side stand bytes that must not change. */
+/* Rooms for arrays lent to the library, by which [C 11] is tried. A page that may be neither read
+ * nor written stands before and behind each room. An array lies against one of the two pages; on
+ * its other side stand bytes that must not change. */
 #ifndef FENCE_H
 #define FENCE_H
 
@@ -24,8 +25,10 @@ static inline void fence_fail(const char *why) {
 
 static inline void fence_open(fence *f) {
     size_t page = (size_t)sysconf(_SC_PAGESIZE);
-    unsigned char *all = mmap(NULL, FENCE_ROOM + 2 * page, PROT_NONE, MAP_PRIVATE | MAP_ANONYMOUS, -1, 0);
-    if (all == MAP_FAILED || mprotect(all + page, FENCE_ROOM, PROT_READ | PROT_WRITE) != 0) fence_fail("no memory for a fence");
+    unsigned char *all =
+        mmap(NULL, FENCE_ROOM + 2 * page, PROT_NONE, MAP_PRIVATE | MAP_ANONYMOUS, -1, 0);
+    if (all == MAP_FAILED || mprotect(all + page, FENCE_ROOM, PROT_READ | PROT_WRITE) != 0)
+        fence_fail("no memory for a fence");
     f->room = f->array = all + page;
     f->bytes = 0;
 }
@@ -35,7 +38,8 @@ static inline unsigned char *fence_side(const fence *f) {
     return f->array == f->room ? f->array + f->bytes : f->array - FENCE_BYTES;
 }
 
-/* Lays a copy of an array against the page behind the room (high) or before it, and answers where. An array of no bytes is null where high. */
+/* Lays a copy of an array against the page behind the room (high) or before it, and answers where.
+ * An array of no bytes is null where high. */
 static inline void *fence_lay(fence *f, const void *from, size_t bytes, int high) {
     if (bytes > FENCE_ROOM - FENCE_BYTES) fence_fail("an array is too long for its fence");
     f->array = high ? f->room + FENCE_ROOM - bytes : f->room;
@@ -54,7 +58,8 @@ static inline int fence_kept(const fence *f) {
 
 /* Forbids writing into the room, so that a write ends the program; or allows it again. */
 static inline void fence_forbid(const fence *f, int forbid) {
-    if (mprotect(f->room, FENCE_ROOM, forbid ? PROT_READ : PROT_READ | PROT_WRITE) != 0) fence_fail("a fence cannot be forbidden");
+    if (mprotect(f->room, FENCE_ROOM, forbid ? PROT_READ : PROT_READ | PROT_WRITE) != 0)
+        fence_fail("a fence cannot be forbidden");
 }
 
 #endif

@@ -1,14 +1,15 @@
-/* Reads lines as the second program's modes take them (tests/second/model/main.rs), makes the calls through the library and writes what that mode
- * writes, so that the two can be compared:
+/* Reads lines as the second program's modes take them (tests/second/model/main.rs), makes the calls
+ * through the library and writes what that mode writes, so that the two can be compared:
  *
- *     state --state     the step by its own call; then from the same state as a schedule of one step, and a collector step by
- *                       jenturik_collect_many too, which must do and tell the same. A kind above 4 has no call of its own, only the schedule
- *     state --run       jenturik_schedule
- *     state --many      the lines of --run; each span of collector steps by jenturik_collect_many, the others by jenturik_schedule, one by one
- *     state --fresh     jenturik_fresh
+ *     state --state     the step by its own call; then from the same state as a schedule of one
+ * step, and a collector step by jenturik_collect_many too, which must do and tell the same. A kind
+ * above 4 has no call of its own, only the schedule state --run       jenturik_schedule state
+ * --many      the lines of --run; each span of collector steps by jenturik_collect_many, the others
+ * by jenturik_schedule, one by one state --fresh     jenturik_fresh
  *
- * Lines have numbers of 64 bits, the library's have 32: a larger one becomes the largest. Both refuse either where they read it; a record's number
- * that does not fit its words would show as a difference. */
+ * Lines have numbers of 64 bits, the library's have 32: a larger one becomes the largest. Both
+ * refuse either where they read it; a record's number that does not fit its words would show as a
+ * difference. */
 #define _DEFAULT_SOURCE
 #include "table.h"
 
@@ -18,7 +19,7 @@ static char line[LINE], out[LINE];
 static char *in, *to;
 static int high; /* against which page the arrays lie: in turn */
 static table given, after, again;
-static uint32_t steps[8 * STEPS];
+static uint32_t steps[JENTURIK_STEP_WORDS * STEPS];
 static lent t;
 static fence order;
 
@@ -61,13 +62,13 @@ static void read_arrays(void) {
 
 static void read_state(void) {
     memset(given.words, 0, sizeof given.words);
-    for (int i = 0; i < 13; i++) given.words[i] = word();
+    for (int i = 0; i < JENTURIK_USED; i++) given.words[i] = word();
     read_arrays();
 }
 
 static void put_state(const table *s) {
-    for (int i = 0; i < 13; i++) put(s->words[i]);
-    for (int i = 13; i < JENTURIK_WORDS; i++)
+    for (int i = 0; i < JENTURIK_USED; i++) put(s->words[i]);
+    for (int i = JENTURIK_USED; i < JENTURIK_WORDS; i++)
         if (s->words[i] != 0) fence_fail("a word that has no use is not 0");
     put(s->lefts);
     for (size_t i = 0; i < s->lefts; i++) put(s->left[i]);
@@ -77,19 +78,29 @@ static void put_state(const table *s) {
     for (size_t i = 0; i < s->colours; i++) put(s->colour[i]);
 }
 
+/* The numbers of a step; its words without a use are 0. */
+static void read_step(uint32_t *step) {
+    memset(step, 0, sizeof(jenturik_step));
+    for (int i = 0; i < STEP_USED; i++) step[i] = word();
+}
+
 /* A schedule of some of the steps read, which must not change. */
 static jenturik_done follow(const uint32_t *from, size_t count) {
-    size_t bytes = 32 * count;
+    size_t bytes = count * sizeof(jenturik_step);
     const uint32_t *lent_steps = fence_lay(&order, from, bytes, high);
-    jenturik_done d = jenturik_schedule(LENT(&t), lent_steps, 8 * count);
-    if (!fence_kept(&order) || (bytes != 0 && memcmp(lent_steps, from, bytes) != 0)) fence_fail("the steps were written");
+    jenturik_done d = jenturik_schedule(LENT(&t), lent_steps, JENTURIK_STEP_WORDS * count);
+    if (!fence_kept(&order) || (bytes != 0 && memcmp(lent_steps, from, bytes) != 0))
+        fence_fail("the steps were written");
     return d;
 }
 
-/* What was done as the mode tells it: the collector's steps from 1 on, 0 for the editor's and for a refusal. */
+/* What was done as the mode tells it: the collector's steps from 1 on, 0 for the editor's and for a
+ * refusal. */
 static uint32_t did(uint32_t kind, jenturik_told a) {
-    static const uint32_t whats[] = {JENTURIK_TAKEN, JENTURIK_LINKED, JENTURIK_SHADED, 0, JENTURIK_NAMED};
-    if ((a.what == JENTURIK_REFUSED) != (a.code != JENTURIK_DONE)) fence_fail("what was done and the code contradict each other");
+    static const uint32_t whats[] = {JENTURIK_TAKEN, JENTURIK_LINKED, JENTURIK_SHADED, 0,
+                                     JENTURIK_NAMED};
+    if ((a.what == JENTURIK_REFUSED) != (a.code != JENTURIK_DONE))
+        fence_fail("what was done and the code contradict each other");
     if (a.what == JENTURIK_REFUSED) return 0;
     if (kind == 3) return a.what - JENTURIK_SHADED + 1;
     if (a.what != whats[kind]) fence_fail("a call tells that it did what another does");
@@ -100,14 +111,15 @@ static void by_many(jenturik_told told) {
     lend(&t, &given, high);
     jenturik_last a = jenturik_collect_many(LENT(&t), 1);
     take_back(&t, &again);
-    if (a.what != told.what || a.code != told.code || a.node != told.node || a.done != (told.code == 0))
+    if (a.what != told.what || a.code != told.code || a.node != told.node ||
+        a.done != (told.code == 0))
         fence_fail("collect_many tells another answer");
     if (!same(&after, &again)) fence_fail("collect_many leaves another state");
 }
 
 static void state_line(void) {
     read_state();
-    for (int i = 0; i < 8; i++) steps[i] = word();
+    read_step(steps);
     lend(&t, &given, high);
     jenturik_done d = follow(steps, 1);
     take_back(&t, &after);
@@ -118,7 +130,8 @@ static void state_line(void) {
         take_back(&t, &again);
         if (!same(&after, &again)) fence_fail("the call and the schedule leave different states");
     }
-    if (told.code != d.code || d.done != (d.code == 0)) fence_fail("the call and the schedule tell different codes");
+    if (told.code != d.code || d.done != (d.code == 0))
+        fence_fail("the call and the schedule tell different codes");
     if (steps[0] == 3) by_many(told);
     put(told.code);
     put(told.node);
@@ -130,7 +143,7 @@ static size_t read_run(void) {
     read_state();
     uint64_t count = number();
     if (count > STEPS) fence_fail("too many steps");
-    for (size_t i = 0; i < 8 * count; i++) steps[i] = word();
+    for (size_t i = 0; i < count; i++) read_step(steps + JENTURIK_STEP_WORDS * i);
     lend(&t, &given, high);
     return (size_t)count;
 }
@@ -150,7 +163,7 @@ static void run_line(void) {
 /* The collector steps from the i-th step on, as many as stand together. */
 static size_t span(size_t i, size_t count) {
     size_t n = 0;
-    while (i + n < count && steps[8 * (i + n)] == 3) n++;
+    while (i + n < count && steps[JENTURIK_STEP_WORDS * (i + n)] == 3) n++;
     return n;
 }
 
@@ -160,7 +173,7 @@ static void many_line(void) {
     while (all.code == 0 && all.done < count) {
         size_t n = span(all.done, count);
         if (n == 0) {
-            jenturik_done d = follow(steps + 8 * all.done, 1);
+            jenturik_done d = follow(steps + JENTURIK_STEP_WORDS * all.done, 1);
             all.done += d.done, all.code = d.code;
         } else {
             jenturik_last a = jenturik_collect_many(LENT(&t), n);
@@ -179,7 +192,8 @@ static void fresh_line(void) {
     jenturik_told a = jenturik_fresh(LENT(&t), nodes, slots);
     take_back(&t, &after);
     uint32_t what = a.code == 0 ? JENTURIK_STARTED : JENTURIK_REFUSED;
-    if (a.what != what || a.node != after.words[JENTURIK_LAST]) fence_fail("fresh tells something else than the last free node");
+    if (a.what != what || a.node != after.words[JENTURIK_LAST])
+        fence_fail("fresh tells something else than the last free node");
     put(a.code);
     put_state(&after);
 }

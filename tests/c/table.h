@@ -5,7 +5,8 @@
 #include "fence.h"
 #include "jenturik.h"
 
-enum { MOST = 16384 };
+/* The words of a step that have a use come first. */
+enum { MOST = 16384, STEP_USED = offsetof(jenturik_step, unused) / sizeof(uint32_t) };
 
 typedef struct {
     uint32_t words[JENTURIK_WORDS];
@@ -45,7 +46,8 @@ static inline void lend(lent *t, const table *from, int high) {
 
 /* Takes back what was lent; nothing beside it may have changed. */
 static inline void take_back(const lent *t, table *to) {
-    if (!fence_kept(&t->lefts) || !fence_kept(&t->rights) || !fence_kept(&t->colours) || !fence_kept(&t->words))
+    if (!fence_kept(&t->lefts) || !fence_kept(&t->rights) || !fence_kept(&t->colours) ||
+        !fence_kept(&t->words))
         fence_fail("a call wrote outside its arrays");
     to->lefts = t->nl;
     to->rights = t->nr;
@@ -57,19 +59,26 @@ static inline void take_back(const lent *t, table *to) {
 }
 
 static inline int same(const table *a, const table *b) {
-    return memcmp(a->words, b->words, sizeof a->words) == 0 && a->lefts == b->lefts && a->rights == b->rights && a->colours == b->colours &&
-           memcmp(a->left, b->left, 2 * a->lefts) == 0 && memcmp(a->right, b->right, 2 * a->rights) == 0 &&
+    return memcmp(a->words, b->words, sizeof a->words) == 0 && a->lefts == b->lefts &&
+           a->rights == b->rights && a->colours == b->colours &&
+           memcmp(a->left, b->left, 2 * a->lefts) == 0 &&
+           memcmp(a->right, b->right, 2 * a->rights) == 0 &&
            memcmp(a->colour, b->colour, a->colours) == 0;
 }
 
 /* A step of a kind up to 4 by its own call. */
 static inline jenturik_told own_call(lent *t, const uint32_t *s) {
     switch (s[0]) {
-    case 0: return jenturik_take(LENT(t), s[1], s[2], s[3], s[4]);
-    case 1: return jenturik_link(LENT(t), s[1], s[2], s[3], s[4], s[5], s[6], s[7]);
-    case 2: return jenturik_shade(LENT(t));
-    case 3: return jenturik_collect(LENT(t));
-    default: return jenturik_look(LENT(t), s[1], s[2], s[3]);
+    case 0:
+        return jenturik_take(LENT(t), s[1], s[2], s[3], s[4]);
+    case 1:
+        return jenturik_link(LENT(t), s[1], s[2], s[3], s[4], s[5], s[6], s[7]);
+    case 2:
+        return jenturik_shade(LENT(t));
+    case 3:
+        return jenturik_collect(LENT(t));
+    default:
+        return jenturik_look(LENT(t), s[1], s[2], s[3]);
     }
 }
 

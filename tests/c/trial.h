@@ -46,8 +46,11 @@ static inline void make_sound(table *s, uint32_t m, uint32_t r, uint32_t edits) 
     make_fresh(s, m, r);
     lend(&t, s, 1);
     for (; edits > 0; edits--) {
-        if (below(2)) jenturik_take(LENT(&t), below(r), 0, 0, below(2));
-        else if (jenturik_link(LENT(&t), below(r), 1, below(2), below(2), below(r), 1, below(2)).code == 0) jenturik_shade(LENT(&t));
+        if (below(2))
+            jenturik_take(LENT(&t), below(r), 0, 0, below(2));
+        else if (jenturik_link(LENT(&t), below(r), 1, below(2), below(2), below(r), 1, below(2))
+                     .code == 0)
+            jenturik_shade(LENT(&t));
         jenturik_collect_many(LENT(&t), below(4 * m));
     }
     take_back(&t, s);

@@ -1,23 +1,33 @@
-/* Wrong libraries. The linker puts these before the true calls (--wrap); the number in the environment's WRONG says what is spoilt, 0 nothing.
- * tests/library runs the tests against each, and each must be found. */
+/* Wrong libraries. The linker puts these before the true calls (--wrap); the number in the
+ * environment's WRONG says what is spoilt, 0 nothing. tests/library runs the tests against each,
+ * and each must be found. */
 #include "jenturik.h"
 #include <stdlib.h>
 
-#define ARRAYS uint16_t *left, size_t lefts, uint16_t *right, size_t rights, uint8_t *colour, size_t colours
-#define READ_ARRAYS const uint16_t *left, size_t lefts, const uint16_t *right, size_t rights, const uint8_t *colour, size_t colours
+#define ARRAYS                                                                                     \
+    uint16_t *left, size_t lefts, uint16_t *right, size_t rights, uint8_t *colour, size_t colours
+#define READ_ARRAYS                                                                                \
+    const uint16_t *left, size_t lefts, const uint16_t *right, size_t rights,                      \
+        const uint8_t *colour, size_t colours
 #define TABLE left, lefts, right, rights, colour, colours, words
-#define EDGES_ARRAYS uint16_t *left, size_t lefts, uint16_t *right, size_t rights, const uint8_t *colour, size_t colours
-#define COLOUR_ARRAYS const uint16_t *left, size_t lefts, const uint16_t *right, size_t rights, uint8_t *colour, size_t colours
+#define EDGES_ARRAYS                                                                               \
+    uint16_t *left, size_t lefts, uint16_t *right, size_t rights, const uint8_t *colour,           \
+        size_t colours
+#define COLOUR_ARRAYS                                                                              \
+    const uint16_t *left, size_t lefts, const uint16_t *right, size_t rights, uint8_t *colour,     \
+        size_t colours
 #define PLACE uint32_t slot, uint32_t count, uint32_t word
 
 jenturik_told __real_jenturik_fresh(ARRAYS, uint32_t *words, uint32_t nodes, uint32_t slots);
 jenturik_told __real_jenturik_look(READ_ARRAYS, const uint32_t *words, PLACE);
-jenturik_told __real_jenturik_link(EDGES_ARRAYS, uint32_t *words, PLACE, uint32_t side, uint32_t toslot, uint32_t tocount, uint32_t toword);
+jenturik_told __real_jenturik_link(EDGES_ARRAYS, uint32_t *words, PLACE, uint32_t side,
+                                   uint32_t toslot, uint32_t tocount, uint32_t toword);
 jenturik_told __real_jenturik_shade(COLOUR_ARRAYS, uint32_t *words);
 jenturik_told __real_jenturik_take(ARRAYS, uint32_t *words, PLACE, uint32_t side);
 jenturik_told __real_jenturik_collect(ARRAYS, uint32_t *words);
 jenturik_last __real_jenturik_collect_many(ARRAYS, uint32_t *words, size_t n);
-jenturik_done __real_jenturik_schedule(ARRAYS, uint32_t *words, const uint32_t *steps, size_t numbers);
+jenturik_done __real_jenturik_schedule(ARRAYS, uint32_t *words, const uint32_t *steps,
+                                       size_t numbers);
 
 static int wrong(int n) {
     static int which = -1;
@@ -33,19 +43,23 @@ jenturik_told __wrap_jenturik_fresh(ARRAYS, uint32_t *words, uint32_t nodes, uin
 }
 
 jenturik_told __wrap_jenturik_look(READ_ARRAYS, const uint32_t *words, PLACE) {
-    if (wrong(3) && colours != 0) ((volatile uint8_t *)(uintptr_t)colour)[0] = colour[0]; /* writes, though it changes nothing */
+    if (wrong(3) && colours != 0)
+        ((volatile uint8_t *)(uintptr_t)colour)[0] =
+            colour[0]; /* writes, though it changes nothing */
     return __real_jenturik_look(TABLE, slot, count, word);
 }
 
-jenturik_told __wrap_jenturik_link(EDGES_ARRAYS, uint32_t *words, PLACE, uint32_t side, uint32_t toslot, uint32_t tocount, uint32_t toword) {
+jenturik_told __wrap_jenturik_link(EDGES_ARRAYS, uint32_t *words, PLACE, uint32_t side,
+                                   uint32_t toslot, uint32_t tocount, uint32_t toword) {
     jenturik_told a = __real_jenturik_link(TABLE, slot, count, word, side, toslot, tocount, toword);
-    if (wrong(4) && a.code == 2) words[JENTURIK_OWES] = 0;                /* mends the record that it refuses */
-    if (wrong(5) && a.code == 0 && a.node == 0) words[JENTURIK_OWES] = 0; /* NIL owed taken for nothing owed */
+    if (wrong(4) && a.code == 2) words[JENTURIK_OWES] = 0; /* mends the record that it refuses */
+    if (wrong(5) && a.code == 0 && a.node == 0)
+        words[JENTURIK_OWES] = 0; /* NIL owed taken for nothing owed */
     return a;
 }
 
 jenturik_told __wrap_jenturik_shade(COLOUR_ARRAYS, uint32_t *words) {
-    if (wrong(6)) words[15] = 0; /* overlooks a word that has no use */
+    if (wrong(6)) words[JENTURIK_WORDS - 1] = 0; /* overlooks a word that has no use */
     jenturik_told a = __real_jenturik_shade(TABLE);
     if (wrong(7) && a.code == 0) colour[a.node] = 2; /* black instead of gray */
     return a;
@@ -54,27 +68,41 @@ jenturik_told __wrap_jenturik_shade(COLOUR_ARRAYS, uint32_t *words) {
 jenturik_told __wrap_jenturik_take(ARRAYS, uint32_t *words, PLACE, uint32_t side) {
     uint32_t last = words[JENTURIK_LAST];
     jenturik_told a = __real_jenturik_take(TABLE, slot, count, word, side);
-    if (wrong(8) && a.code == 0) words[JENTURIK_LAST] = last; /* last stays when the list runs out */
-    if (wrong(9) && a.code == 7) a.node = 0;                  /* a refusal's node is lost */
+    if (wrong(8) && a.code == 0)
+        words[JENTURIK_LAST] = last;         /* last stays when the list runs out */
+    if (wrong(9) && a.code == 7) a.node = 0; /* a refusal's node is lost */
     return a;
 }
 
 jenturik_told __wrap_jenturik_collect(ARRAYS, uint32_t *words) {
     jenturik_told a = __real_jenturik_collect(TABLE);
-    if (wrong(10) && a.what == JENTURIK_APPENDED) left[lefts] = 0;            /* writes behind the array */
-    if (wrong(11) && a.what == JENTURIK_APPENDED) a.what = JENTURIK_WHITENED; /* tells another deed */
+    if (wrong(10) && a.what == JENTURIK_APPENDED) left[lefts] = 0; /* writes behind the array */
+    if (wrong(11) && a.what == JENTURIK_APPENDED)
+        a.what = JENTURIK_WHITENED; /* tells another deed */
     return a;
 }
 
 jenturik_last __wrap_jenturik_collect_many(ARRAYS, uint32_t *words, size_t n) {
-    jenturik_last a = __real_jenturik_collect_many(TABLE, wrong(12) && n > 500 ? n - 1 : n); /* one step too few of many */
+    jenturik_last a = __real_jenturik_collect_many(
+        TABLE, wrong(12) && n > 500 ? n - 1 : n); /* one step too few of many */
     if (wrong(12) && n > 500 && a.code == 0) a.done++;
     if (wrong(13) && a.code != 0 && a.done > 0) a.code = 0; /* a refusal is not told */
     return a;
 }
 
-jenturik_done __wrap_jenturik_schedule(ARRAYS, uint32_t *words, const uint32_t *steps, size_t numbers) {
-    if (wrong(14)) numbers -= numbers % 8; /* does the whole steps of a ragged schedule */
+/* A copy of the steps, their unused words 0. */
+static const uint32_t *without_unused(const uint32_t *steps, size_t numbers) {
+    static uint32_t copy[JENTURIK_STEP_WORDS * 1000];
+    const size_t used = offsetof(jenturik_step, unused) / sizeof(uint32_t);
+    for (size_t i = 0; i < numbers; i++)
+        copy[i] = i % JENTURIK_STEP_WORDS < used ? steps[i] : 0;
+    return copy;
+}
+
+jenturik_done __wrap_jenturik_schedule(ARRAYS, uint32_t *words, const uint32_t *steps,
+                                       size_t numbers) {
+    if (wrong(14)) numbers -= numbers % JENTURIK_STEP_WORDS; /* does the whole steps alone */
+    if (wrong(16)) steps = without_unused(steps, numbers); /* overlooks a step's unused words */
     jenturik_done d = __real_jenturik_schedule(TABLE, steps, numbers);
     if (wrong(15) && d.code == 10 && d.done > 0) d.code = 0; /* a kind above 4 ends it quietly */
     return d;

@@ -1,4 +1,5 @@
--- Rules by which `search` reads a test in a goal and asks for the fact about numbers: no proof names a path into `c`.
+-- Rules by which `search` reads a test in a goal and asks for the fact about numbers: no proof
+-- names a path into `c`.
 use Prim.Native.Nat.{ℕ, _<_, _≤_}
 use mathlib.Core.Bool.{Bool, true, false, false≢true, true≢false, _||_, not}
 use mathlib.Core.Path.{_≡_, refl, sym, _∙_}
@@ -6,7 +7,8 @@ use mathlib.Core.List.{List, [], _∷_}
 use Rattle.base.specs.Choice.{every, pick, first}
 use lib.Dec.{ltb, leb, eqb}
 use native.Mathlib.Omega.{arith}
-use borrow.Author.Tests.{eqb-false, ltb-true, leb-true, eqb-true, lt-ltb, le-ltb, le-leb, lt-leb, eq-eqb, ne-eqb}
+use borrow.Author.Tests.{eqb-false, ltb-true, leb-true, eqb-true, lt-ltb, le-ltb, le-leb, lt-leb}
+use borrow.Author.Tests.{eq-eqb, ne-eqb}
 
 pub lt-yes : (a b : ℕ) → a < b → true ≡ ltb a b
 lt-yes a b h = sym (lt-ltb a b h)
@@ -90,7 +92,27 @@ code-yes r c k e h = eq-yes c k (sym e ∙ h)
 pub code-no : (r c k : ℕ) → r ≡ c → (r ≡ k → ⊥) → false ≡ eqb c k
 code-no r c k e h = eq-no c k (λ q. h (e ∙ q))
 
-pub ruleset tests = (lt-yes, lt-no, le-yes, le-no, eq-yes, eq-no, every-here, every-skip, every-none, every-last, or-first, or-skip, pick-yes, pick-no, called, not-yes, not-no, not-is, is-not)
+pub ruleset tests = (
+  lt-yes,
+  lt-no,
+  le-yes,
+  le-no,
+  eq-yes,
+  eq-no,
+  every-here,
+  every-skip,
+  every-none,
+  every-last,
+  or-first,
+  or-skip,
+  pick-yes,
+  pick-no,
+  called,
+  not-yes,
+  not-no,
+  not-is,
+  is-not,
+)
 
 -- what passed tests tell: each is `test ≡ true`
 abbrev pub Each : List Bool → Type 0
@@ -135,12 +157,14 @@ unfolding first pick
 zeros [] e = tt
 zeros (c ∷ cs) e = go (eqb c 0) refl (zeros cs) e
   where
-    go : (b : Bool) → eqb c 0 ≡ b → (0 ≡ first cs → Zeros cs) → 0 ≡ pick b (first cs) c → (0 ≡ c) × Zeros cs
+    go : (b : Bool) → eqb c 0 ≡ b → (0 ≡ first cs → Zeros cs) → 0 ≡ pick b (first cs) c
+        → (0 ≡ c) × Zeros cs
     go true q z h = (sym (eqb-true c 0 q), z h)
     go false q z h = absurd (eqb-false c 0 q (sym h))
 
 -- to show P of what a test picks, show it of both
-pub split : {A : Type 0} (P : A → Type 0) (b : Bool) (x y : A) → (b ≡ true → P x) → (b ≡ false → P y) → P (pick b x y)
+pub split : {A : Type 0} (P : A → Type 0) (b : Bool) (x y : A) → (b ≡ true → P x)
+    → (b ≡ false → P y) → P (pick b x y)
 unfolding pick
 split P true x y f g = f refl
 split P false x y f g = g refl

@@ -4,8 +4,8 @@ use mathlib.Core.Path.{_≡_, refl, sym, ap, _∙_}
 use borrow.Author.Tests.{eqb-true}
 use Rattle.base.proofs.Tests.{split, pick-yes, pick-no, eq-yes, eq-no}
 use Rattle.rules.specs.declared.Answer.{Answer}
-use Rattle.rules.specs.declared.Answer.the-variants.{Named, Refused}
-use Rattle.rules.specs.Table.{State}
+use Rattle.rules.specs.declared.Answer.the-variants.{Named}
+use Rattle.rules.specs.Table.{State, refused}
 use Rattle.rules.specs.Check.{check}
 use Rattle.rules.specs.Steps.{step, collecting, codeOf}
 use Rattle.rules.specs.Schedules.{followed, follow, schedule, collects}
@@ -13,12 +13,15 @@ use Rattle.strides.specs.Leads.{Lasted, lasted, more, Passes}
 use Rattle.batch.specs.Last.{answering, lastAnswer}
 
 follows : (n e : ℕ) (a : Answer) (s : State) → codeOf a ≡ 0
-    → followed (more n e a s .done) (codeOf (more n e a s .answer)) (more n e a s .state) ≡ follow (collects n) e s
+    → followed (more n e a s .done) (codeOf (more n e a s .answer)) (more n e a s .state)
+    ≡ follow (collects n) e s
 unfolding more follow collects
 follows zero e a s h = rw h
 follows (suc n) e a s h =
-    split (λ (o : Lasted). followed (o .done) (codeOf (o .answer)) (o .state) ≡ follow (collects (suc n)) e s) _ _ _
-    (λ q. pick-yes _ _ _ _ (sym q) (follows n (e + 1) (step collecting s .answer) (step collecting s .state) (eqb-true _ _ q)))
+    split (λ (o : Lasted). followed (o .done) (codeOf (o .answer)) (o .state)
+    ≡ follow (collects (suc n)) e s) _ _ _
+    (λ q. pick-yes _ _ _ _ (sym q) (follows n (e + 1) (step collecting s .answer)
+    (step collecting s .state) (eqb-true _ _ q)))
     (λ q. pick-no _ _ _ _ (sym q) refl)
 
 answers : (n e : ℕ) (a : Answer) (s : State) → more n e a s .answer ≡ answering n a s
@@ -26,18 +29,26 @@ unfolding more answering
 answers zero e a s = refl
 answers (suc n) e a s =
     split (λ (o : Lasted). o .answer ≡ answering (suc n) a s) _ _ _
-    (λ q. pick-yes _ _ _ _ (sym q) (answers n (e + 1) (step collecting s .answer) (step collecting s .state)))
+    (λ q. pick-yes _ _ _ _ (sym q) (answers n (e + 1) (step collecting s .answer)
+    (step collecting s .state)))
     (λ q. pick-no _ _ _ _ (sym q) refl)
 
 -- n steps from a record that passes
-pub scheduled : (n d : ℕ) (a : Answer) (s t : State) → Passes s → lasted d a t ≡ more n 0 (Named 0) s
+pub scheduled : (n d : ℕ) (a : Answer) (s t : State) → Passes s → lasted d a t
+    ≡ more n 0 (Named 0) s
     → (followed d (codeOf a) t ≡ schedule (collects n) s) × (a ≡ lastAnswer n s)
 unfolding schedule lastAnswer
 scheduled n d a s t p w =
-    let z = eq-yes (check s) 0 (sym (p .code)) in
-    (pick-yes _ _ _ _ z (ap (λ (o : Lasted). followed (o .done) (codeOf (o .answer)) (o .state)) w ∙ follows n 0 (Named 0) s refl), pick-yes _ _ _ _ z (ap (λ (o : Lasted). o .answer) w ∙ answers n 0 (Named 0) s))
+    let z = eq-yes (check s) 0 (sym (p .code)) in (
+      pick-yes _ _ _ _ z (ap (λ (o : Lasted). followed (o .done) (codeOf (o .answer)) (o .state)) w
+          ∙ follows n 0 (Named 0) s refl),
+      pick-yes _ _ _ _ z
+          (ap (λ (o : Lasted). o .answer) w ∙ answers n 0 (Named 0) s),
+    )
 
 -- from one that does not
-pub unscheduled : (n code : ℕ) (s : State) → code ≡ check s → (code ≡ 0 → ⊥) → (followed 0 code s ≡ schedule (collects n) s) × (Refused code 0 ≡ lastAnswer n s)
+pub unscheduled : (n code : ℕ) (s : State) → code ≡ check s → (code ≡ 0 → ⊥)
+    → (followed 0 code s ≡ schedule (collects n) s) × (refused code 0 ≡ lastAnswer n s)
 unfolding schedule lastAnswer
-unscheduled n code s e f = rw (← e) (pick-no _ _ _ _ (eq-no code 0 f) refl, pick-no _ _ _ _ (eq-no code 0 f) refl)
+unscheduled n code s e f =
+    rw (← e) (pick-no _ _ _ _ (eq-no code 0 f) refl, pick-no _ _ _ _ (eq-no code 0 f) refl)

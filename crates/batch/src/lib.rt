@@ -1,19 +1,23 @@
-// Many collector steps in one call: what is judged at each step is judged once, and runs of steps are made at once.
+// Many collector steps in one call: what is judged at each step is judged once, and runs of steps
+// are made at once.
 use rules::Answer;
 use rules::Phase;
 use rules::Record;
 use strides::Ahead;
 ghost use mathlib.Core.Path.{_≡_};
-ghost use Prim.Native.Nat.{_+_, _<_, _≤_};
-ghost use Rattle.rules.specs.Table.{state};
+ghost use Prim.Native.Nat.{_<_, _≤_};
+ghost use Rattle.rules.specs.Table.{refused, state};
 ghost use Rattle.rules.specs.Check.{bound};
 ghost use Rattle.rules.specs.Schedules.{schedule, collects};
-ghost use Rattle.rules.specs.declared.Answer.the-variants.{Named, Refused};
+ghost use Rattle.rules.specs.declared.Answer.the-variants.{Named};
 ghost use Rattle.strides.specs.Leads.{lasted, more, Passes, Room, Leads};
 ghost use Rattle.batch.specs.Last.{many, lastAnswer};
-ghost use Rattle.batch.specs.Turns.{Turn};
+ghost use Rattle.batch.specs.StrideAndStep.{StrideAndStep};
+ghost use Rattle.base.specs.Lent.{is};
+ghost use Rattle.rules.specs.Lent.{given};
 
-// How many steps were done, what the last one answered, or the one that was refused, and the record.
+// How many steps were done, what the last one answered, or the one that was refused, and the
+// record.
 pub struct Many {
     pub done: usize,
     pub answer: Answer,
@@ -22,8 +26,10 @@ pub struct Many {
 
 // At most cap steps of the record's phase at once.
 fn stride(left: &mut [u16], right: &mut [u16], colour: &mut [u8], x: Record, cap: usize) -> Ahead
-    requires { ⌜ (Passes (state (now left) (now right) (now colour) x)) × (Room x cap) ⌝ }
-    ensures { λ r. ⌜ (r .d ≤ cap) × Leads (state (now (left .entry)) (now (right .entry)) (now (colour .entry)) x) (r .d) (state (now (left .exit)) (now (right .exit)) (now (colour .exit)) (r .rec)) ⌝ }
+    requires { ⌜ Passes (state (now left) (now right) (now colour) x) ⌝ }
+    requires { ⌜ Room x cap ⌝ }
+    ensures { λ r. ⌜ (r .d ≤ cap) × Leads (given left right colour x) (r .d)
+        (state (is left) (is right) (is colour) (r .rec)) ⌝ }
 {
     if cap == 0 {
         return Ahead { d: 0, rec: x };
@@ -40,7 +46,7 @@ fn stride(left: &mut [u16], right: &mut [u16], colour: &mut [u8], x: Record, cap
 }
 
 // At most most steps at once, and then one.
-fn turn(
+fn stride_and_step(
     left: &mut [u16],
     right: &mut [u16],
     colour: &mut [u8],
@@ -48,8 +54,10 @@ fn turn(
     b: u32,
     most: usize,
 ) -> Many
-    requires { ⌜ (Passes (state (now left) (now right) (now colour) x)) × (b ≡ bound (x .m) (x .r)) ⌝ }
-    ensures { λ r. ⌜ (r .done ≤ most) × Turn b (state (now (left .entry)) (now (right .entry)) (now (colour .entry)) x) (r .done) (r .answer) (state (now (left .exit)) (now (right .exit)) (now (colour .exit)) (r .rec)) ⌝ }
+    requires { ⌜ Passes (state (now left) (now right) (now colour) x) ⌝ }
+    requires { ⌜ b ≡ bound 2 (x .m) (x .r) ⌝ }
+    ensures { λ r. ⌜ (r .done ≤ most) × StrideAndStep b (given left right colour x) (r .done)
+        (r .answer) (state (is left) (is right) (is colour) (r .rec)) ⌝ }
 {
     let near = b - 1 - x.steps;
     let l = stride(left, right, colour, x, strides::least(most, near as usize));
@@ -65,18 +73,19 @@ fn turn(
     }
 }
 
-// The answer of a run that stands at a record with a count past its limit: code 2 where a step is still to be made.
+// The answer of a run that stands at a record with a count past its limit: code 2 where a step is
+// still to be made.
 fn ended(done: usize, n: usize, a: Answer) -> Answer
-    ensures { λ r. ⌜ (done < n → r ≡ Refused 2 0) × (n ≤ done → r ≡ a) ⌝ }
+    ensures { λ r. ⌜ (done < n → r ≡ refused 2 0) × (n ≤ done → r ≡ a) ⌝ }
 {
     if done < n {
-        return Answer::Refused(2, 0);
+        return Answer::refused(2, 0);
     }
     a
 }
 
 // n steps, from a record that passes.
-fn turns(
+fn all_steps(
     left: &mut [u16],
     right: &mut [u16],
     colour: &mut [u8],
@@ -84,14 +93,16 @@ fn turns(
     b: u32,
     n: usize,
 ) -> Many
-    requires { ⌜ (Passes (state (now left) (now right) (now colour) x)) × (b ≡ bound (x .m) (x .r)) ⌝ }
-    ensures { λ r. ⌜ lasted (r .done) (r .answer) (state (now (left .exit)) (now (right .exit)) (now (colour .exit)) (r .rec)) ≡ more n 0 (Named 0) (state (now (left .entry)) (now (right .entry)) (now (colour .entry)) x) ⌝ }
+    requires { ⌜ Passes (state (now left) (now right) (now colour) x) ⌝ }
+    requires { ⌜ b ≡ bound 2 (x .m) (x .r) ⌝ }
+    ensures { λ r. ⌜ lasted (r .done) (r .answer) (state (is left) (is right) (is colour) (r .rec))
+        ≡ more n 0 (Named 0) (given left right colour x) ⌝ }
 {
     let mut rec = x;
     let mut answer = Answer::Named(0);
     let mut done = 0;
     while done < n {
-        let gone = turn(left, right, colour, rec, b, n - done - 1);
+        let gone = stride_and_step(left, right, colour, rec, b, n - done - 1);
         rec = gone.rec;
         answer = gone.answer;
         done += gone.done;
@@ -99,7 +110,7 @@ fn turns(
             return Many { done, answer, rec };
         }
         done += 1;
-        if !strides::fine(b, rec) {
+        if !rules::cycle_ok(rec, b) {
             return Many {
                 done,
                 answer: ended(done, n, answer),
@@ -118,15 +129,17 @@ pub fn collect_many(
     x: Record,
     n: usize,
 ) -> Many
-    ensures { λ r. ⌜ (many r (now (left .exit)) (now (right .exit)) (now (colour .exit)) ≡ schedule (collects n) (state (now (left .entry)) (now (right .entry)) (now (colour .entry)) x)) × (r .answer ≡ lastAnswer n (state (now (left .entry)) (now (right .entry)) (now (colour .entry)) x)) ⌝ }
+    ensures { λ r. ⌜ (many r (is left) (is right) (is colour)
+        ≡ schedule (collects n) (given left right colour x)) × (r .answer
+        ≡ lastAnswer n (given left right colour x)) ⌝ }
 {
     let code = rules::check(left.len(), right.len(), colour.len(), x);
     if code != 0 {
         return Many {
             done: 0,
-            answer: Answer::Refused(code, 0),
+            answer: Answer::refused(code, 0),
             rec: x,
         };
     }
-    turns(left, right, colour, x, rules::bound(x.m, x.r), n)
+    all_steps(left, right, colour, x, rules::bound(x.m, x.r), n)
 }

@@ -1,32 +1,52 @@
-// For measuring only: single steps for C. Alone in its module, so that LLVM makes one function of it.
+// For measuring only: single steps for C. Alone in its module, so that LLVM makes one function of
+// it.
+use rules::Ran;
+use rules::Record;
+ghost use mathlib.Core.Path.{_≡_};
+ghost use Rattle.rules.specs.Schedules.{ran, follow, collects};
+ghost use Rattle.bench_steps.specs.Steps.{stepped, steps};
+ghost use Rattle.base.specs.Lent.{was, is};
+ghost use Rattle.rules.specs.Lent.{given};
 
-// n single steps, one call of the library each, until one is refused; how many were done.
-#[no_mangle]
-pub extern "C" fn jenturik_steps(
-    left: &mut [u16],
-    right: &mut [u16],
-    colour: &mut [u8],
-    words: &mut [u32; 16],
-    n: usize,
-) -> usize {
-    let w = *words;
-    if !words::is_record(w) {
-        return 0;
-    }
-    let mut rec = words::record_of(w);
+// n single steps, one call of `collect` each, until one is refused.
+fn one_by_one(left: &mut [u16], right: &mut [u16], colour: &mut [u8], x: Record, n: usize) -> Ran
+    ensures { λ r. ⌜ ran r (is left) (is right) (is colour)
+        ≡ follow (collects n) 0 (given left right colour x) ⌝ }
+{
+    let mut rec = x;
     let mut done = 0;
     while done < n {
         let made = collector::collect(left, right, colour, rec);
         rec = made.rec;
         let answer = made.answer;
-        if answer.code() != 0 {
-            let v = words::words_of(rec);
-            *words = v;
-            return done;
+        let code = answer.code();
+        if code != 0 {
+            return Ran { done, code, rec };
         }
         done += 1;
     }
+    Ran { done, code: 0, rec }
+}
+
+// The same over words that C keeps; how many were done.
+#[no_mangle]
+pub extern "C" fn jenturik_steps(
+    left: &mut [u16],
+    right: &mut [u16],
+    colour: &mut [u8],
+    words: &mut [u32; words::WORDS],
+    n: usize,
+) -> usize
+    ensures { λ d. ⌜ stepped d (is left) (is right) (is colour) (is words)
+        ≡ steps n (was left) (was right) (was colour) (was words) ⌝ }
+{
+    let w = *words;
+    if !words::is_record(w) {
+        return 0;
+    }
+    let ran = one_by_one(left, right, colour, words::record_of(w), n);
+    let rec = ran.rec;
     let v = words::words_of(rec);
     *words = v;
-    done
+    ran.done
 }

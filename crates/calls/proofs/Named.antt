@@ -11,7 +11,8 @@ use Rattle.rules.specs.Check.{check}
 use Rattle.rules.specs.Steps.{step, source, target, taking, linking, shading, collecting, looking}
 use Rattle.rules.specs.declared.Step.{Step}
 use Rattle.rules.specs.declared.Place.{Place}
-use Rattle.rules.proofs.Laws.{step-taking, step-linking, step-shading, step-collecting, step-looking}
+use Rattle.rules.proofs.Laws.{step-taking, step-linking, step-shading, step-collecting}
+use Rattle.rules.proofs.Laws.{step-looking}
 
 module _ (a : Step) (s : State) where
   is : (n : ℕ) (y o : Outcome) → a .kind ≡ n → y ≡ pick (eqb (a .kind) n) y o
@@ -24,26 +25,33 @@ module _ (a : Step) (s : State) where
   unfolding step
   kind-take p e h = step-taking p (a .side) s ∙ rw e (is 0 _ _ h)
 
-  pub kind-link : (p q : Place) → p ≡ source a → q ≡ target a → a .kind ≡ 1 → step (linking p (a .side) q) s ≡ step a s
+  pub kind-link : (p q : Place) → p ≡ source a → q ≡ target a → a .kind ≡ 1
+      → step (linking p (a .side) q) s ≡ step a s
   unfolding step
-  kind-link p q e f h = step-linking p (a .side) q s ∙ rw (e, f) (not 0 _ _ _ (λ z. omega arith) (is 1 _ _ h))
+  kind-link p q e f h =
+      step-linking p (a .side) q s ∙ rw (e, f) (not 0 _ _ _ (λ z. omega arith) (is 1 _ _ h))
 
   pub kind-shade : a .kind ≡ 2 → step shading s ≡ step a s
   unfolding step
-  kind-shade h = step-shading s ∙ not 0 _ _ _ (λ z. omega arith) (not 1 _ _ _ (λ z. omega arith) (is 2 _ _ h))
+  kind-shade h =
+      step-shading s ∙ not 0 _ _ _ (λ z. omega arith) (not 1 _ _ _ (λ z. omega arith) (is 2 _ _ h))
 
   pub kind-collect : a .kind ≡ 3 → step collecting s ≡ step a s
   unfolding step
   kind-collect h =
-      step-collecting s ∙ not 0 _ _ _ (λ z. omega arith) (not 1 _ _ _ (λ z. omega arith) (not 2 _ _ _ (λ z. omega arith) (is 3 _ _ h)))
+      step-collecting s ∙ not 0 _ _ _ (λ z. omega arith)
+      (not 1 _ _ _ (λ z. omega arith) (not 2 _ _ _ (λ z. omega arith) (is 3 _ _ h)))
 
   pub kind-look : (p : Place) → p ≡ source a → a .kind ≡ 4 → step (looking p) s ≡ step a s
   unfolding step
   kind-look p e h =
       step-looking p s ∙ rw e
-      (not 0 _ _ _ (λ z. omega arith) (not 1 _ _ _ (λ z. omega arith) (not 2 _ _ _ (λ z. omega arith) (not 3 _ _ _ (λ z. omega arith) (is 4 _ _ h)))))
+      (not 0 _ _ _ (λ z. omega arith) (not 1 _ _ _ (λ z. omega arith)
+      (not 2 _ _ _ (λ z. omega arith) (not 3 _ _ _ (λ z. omega arith) (is 4 _ _ h)))))
 
-  pub kind-none : (code : ℕ) → code ≡ first (check s ∷ 10 ∷ []) → (a .kind ≡ 0 → ⊥) → (a .kind ≡ 1 → ⊥) → (a .kind ≡ 2 → ⊥) → (a .kind ≡ 3 → ⊥) → (a .kind ≡ 4 → ⊥)
+  pub kind-none : (code : ℕ) → code ≡ first (check s ∷ 10 ∷ []) → (a .kind ≡ 0 → ⊥)
+      → (a .kind ≡ 1 → ⊥) → (a .kind ≡ 2 → ⊥) → (a .kind ≡ 3 → ⊥) → (a .kind ≡ 4 → ⊥)
       → refuse s code 0 ≡ step a s
   unfolding step
-  kind-none code e h i j k l = not 0 _ _ _ h (not 1 _ _ _ i (not 2 _ _ _ j (not 3 _ _ _ k (not 4 _ _ _ l (rw e)))))
+  kind-none code e h i j k l =
+      not 0 _ _ _ h (not 1 _ _ _ i (not 2 _ _ _ j (not 3 _ _ _ k (not 4 _ _ _ l (rw e)))))

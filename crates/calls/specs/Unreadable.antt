@@ -7,4 +7,4 @@ use Rattle.rules.specs.declared.Record.{Record}
 
 -- 1, 2, else 10
 unfoldable pub unreadable : ℕ → ℕ → ℕ → Record → ℕ
-unreadable ll rl cl x = first (checkOf ll rl cl x ∷ 10 ∷ [])
+unreadable ll rl cl x = first (checkOf (ll ∷ rl ∷ []) cl x ∷ 10 ∷ [])

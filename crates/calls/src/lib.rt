@@ -1,13 +1,12 @@
 // A step by value: a kind and seven numbers, done by the call that the kind names.
-use rules::Answer;
 use rules::Made;
 use rules::Place;
 use rules::Record;
 use rules::Step;
 ghost use mathlib.Core.Path.{_≡_};
-ghost use Rattle.rules.specs.Table.{state, outcome};
 ghost use Rattle.rules.specs.Steps.{step, source, target};
 ghost use Rattle.calls.specs.Unreadable.{unreadable};
+ghost use Rattle.rules.specs.Lent.{given, leaves};
 
 fn source(a: Step) -> Place
     ensures { λ p. ⌜ p ≡ source a ⌝ }
@@ -42,7 +41,7 @@ pub fn unreadable(lefts: usize, rights: usize, colours: usize, x: Record) -> u8
 
 // One step: 0 take, 1 link, 2 shade, 3 collect, 4 look.
 pub fn step(left: &mut [u16], right: &mut [u16], colour: &mut [u8], x: Record, a: Step) -> Made
-    ensures { λ r. ⌜ outcome r (now (left .exit)) (now (right .exit)) (now (colour .exit)) ≡ step a (state (now (left .entry)) (now (right .entry)) (now (colour .entry)) x) ⌝ }
+    ensures { λ r. ⌜ leaves r left right colour ≡ step a (given left right colour x) ⌝ }
 {
     let kind = a.kind;
     if kind == 0 {
@@ -60,8 +59,5 @@ pub fn step(left: &mut [u16], right: &mut [u16], colour: &mut [u8], x: Record, a
     if kind == 4 {
         return editor::look(left, right, colour, x, source(a));
     }
-    Made {
-        answer: Answer::Refused(unreadable(left.len(), right.len(), colour.len(), x), 0),
-        rec: x,
-    }
+    rules::refusal(unreadable(left.len(), right.len(), colour.len(), x), 0, x)
 }

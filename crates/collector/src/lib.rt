@@ -5,24 +5,27 @@ use rules::Phase;
 use rules::Record;
 ghost use mathlib.Core.Path.{_≡_};
 ghost use mathlib.Core.List.{List};
-ghost use Prim.Native.Nat.{ℕ, _<_, _≤_};
+ghost use Prim.Native.Nat.{ℕ, _+_, _<_, _≤_};
 ghost use lib.ListN.{length};
-ghost use Rattle.rules.specs.Table.{state, outcome};
-ghost use Rattle.rules.specs.Collector.{shadeStep, afterRoots, scanStep, edgeStep, blackStep, appendWhite, appendStep, phaseStep};
+ghost use Rattle.rules.specs.Table.{mostSlots, table, state, handed, outcome};
+ghost use Rattle.rules.specs.Collector.{shadeStep, afterRoots, scanStep, edgeStep, blackStep};
+ghost use Rattle.rules.specs.Collector.{appendWhite, appendStep, phaseStep};
 ghost use Rattle.rules.specs.Steps.{step, collecting};
 ghost use Rattle.rules.specs.Facts.{Good, Inside};
+ghost use Rattle.rules.specs.declared.Phase.the-variants.{Scan};
+ghost use Rattle.base.specs.Lent.{was, is};
+ghost use Rattle.rules.specs.Lent.{given, leaves};
 
 // Shades node n, and goes on to a phase.
 fn shade_step(colour: &mut [u8], x: Record, n: u16, then: Phase) -> Made
-    requires { ⌜ (n < length (now colour)) × (x .steps < 20000000) ⌝ }
-    ensures { λ r. ⌜ ((l k : List ℕ) → outcome r l k (now (colour .exit)) ≡ shadeStep (state l k (now (colour .entry)) x) n then) ⌝ }
+    requires { ⌜ Good (x .m) (x .m) (length (now colour)) x ⌝ }
+    requires { ⌜ n < x .m ⌝ }
+    ensures { λ r. ⌜ ((es : List (List ℕ)) → handed r es (is colour)
+        ≡ shadeStep (table es (was colour) x) n then) ⌝ }
 {
     let at = n as usize;
     if 2 < colour[at] {
-        return Made {
-            answer: Answer::Refused(7, n),
-            rec: x,
-        };
+        return rules::refusal(7, n, x);
     }
     table::shade_node(colour, n);
     Made {
@@ -33,7 +36,8 @@ fn shade_step(colour: &mut [u8], x: Record, n: u16, then: Phase) -> Made
 
 // The phase after Roots i.
 fn after_roots(m: u16, r: u16, i: u16) -> Phase
-    requires { ⌜ (r ≤ 64) × (i ≤ 65) ⌝ }
+    requires { ⌜ r ≤ mostSlots ⌝ }
+    requires { ⌜ i ≤ r + 1 ⌝ }
     ensures { λ p. ⌜ p ≡ afterRoots m r i ⌝ }
 {
     if i == r + 1 {
@@ -44,15 +48,14 @@ fn after_roots(m: u16, r: u16, i: u16) -> Phase
 
 // Scan i, k: Left i where node i is gray, else on to the next node.
 fn scan_step(colour: &[u8], x: Record, i: u16, k: u16) -> Made
-    requires { ⌜ (i < length (now colour)) × ((i < 4096) × ((x .steps < 20000000) × ((0 < x .m) × (0 < k)))) ⌝ }
-    ensures { λ r. ⌜ ((l e : List ℕ) → outcome r l e (now (colour .entry)) ≡ scanStep (state l e (now (colour .entry)) x) i k) ⌝ }
+    requires { ⌜ Good (x .m) (x .m) (length (now colour)) x ⌝ }
+    requires { ⌜ Inside (x .m) (x .r) (Scan i k) ⌝ }
+    ensures { λ r. ⌜ ((es : List (List ℕ)) → handed r es (was colour)
+        ≡ scanStep (table es (was colour) x) i k) ⌝ }
 {
     let at = i as usize;
     if 2 < colour[at] {
-        return Made {
-            answer: Answer::Refused(7, i),
-            rec: x,
-        };
+        return rules::refusal(7, i, x);
     }
     if colour[at] == 1 {
         return Made {
@@ -74,22 +77,22 @@ fn scan_step(colour: &[u8], x: Record, i: u16, k: u16) -> Made
 
 // Left i or Right i: shades e, that edge of node i, and goes on to a phase.
 fn edge_step(colour: &mut [u8], x: Record, i: u16, e: u16, then: Phase) -> Made
-    requires { ⌜ (x .m ≤ length (now colour)) × (x .steps < 20000000) ⌝ }
-    ensures { λ r. ⌜ ((l k : List ℕ) → outcome r l k (now (colour .exit)) ≡ edgeStep (state l k (now (colour .entry)) x) i e then) ⌝ }
+    requires { ⌜ Good (x .m) (x .m) (length (now colour)) x ⌝ }
+    ensures { λ r. ⌜ ((es : List (List ℕ)) → handed r es (is colour)
+        ≡ edgeStep (table es (was colour) x) i e then) ⌝ }
 {
     if table::bad_edge(x.m, e) {
-        return Made {
-            answer: Answer::Refused(7, i),
-            rec: x,
-        };
+        return rules::refusal(7, i, x);
     }
     shade_step(colour, x, e, then)
 }
 
 // Black i: node i is black, and the scan begins again behind it.
 fn black_step(colour: &mut [u8], x: Record, i: u16) -> Made
-    requires { ⌜ (i < length (now colour)) × ((i < 4096) × ((x .steps < 20000000) × ((0 < x .m) × (x .blackened ≤ 4096)))) ⌝ }
-    ensures { λ r. ⌜ ((l k : List ℕ) → outcome r l k (now (colour .exit)) ≡ blackStep (state l k (now (colour .entry)) x) i) ⌝ }
+    requires { ⌜ Good (x .m) (x .m) (length (now colour)) x ⌝ }
+    requires { ⌜ i < x .m ⌝ }
+    ensures { λ r. ⌜ ((es : List (List ℕ)) → handed r es (is colour)
+        ≡ blackStep (table es (was colour) x) i) ⌝ }
 {
     let at = i as usize;
     colour[at] = 2;
@@ -101,22 +104,18 @@ fn black_step(colour: &mut [u8], x: Record, i: u16) -> Made
 
 // A white node i goes to the end of the free list.
 fn append_white(left: &mut [u16], right: &mut [u16], x: Record, i: u16) -> Made
-    requires { ⌜ (i < length (now left)) × ((i < length (now right)) × ((x .last < length (now left)) × ((x .steps < 20000000) × ((i < 4096) × (x .r ≤ 64))))) ⌝ }
-    ensures { λ r. ⌜ ((c : List ℕ) → outcome r (now (left .exit)) (now (right .exit)) c ≡ appendWhite (state (now (left .entry)) (now (right .entry)) c x) i) ⌝ }
+    requires { ⌜ Good (length (now left)) (length (now right)) (x .m) x ⌝ }
+    requires { ⌜ i < x .m ⌝ }
+    ensures { λ r. ⌜ ((c : List ℕ) → outcome r (is left) (is right) c
+        ≡ appendWhite (state (was left) (was right) c x) i) ⌝ }
 {
     let at = i as usize;
     let end = x.last as usize;
     if i <= x.r + 1 {
-        return Made {
-            answer: Answer::Refused(7, i),
-            rec: x,
-        };
+        return rules::refusal(7, i, x);
     }
     if i == x.last {
-        return Made {
-            answer: Answer::Refused(7, i),
-            rec: x,
-        };
+        return rules::refusal(7, i, x);
     }
     left[at] = 0;
     right[at] = 0;
@@ -127,10 +126,11 @@ fn append_white(left: &mut [u16], right: &mut [u16], x: Record, i: u16) -> Made
     }
 }
 
-// Append i: a black node becomes white, a white one goes to the free list.
+// [Append 1] Append i: black is made white, white goes to the free list.
 fn append_step(left: &mut [u16], right: &mut [u16], colour: &mut [u8], x: Record, i: u16) -> Made
-    requires { ⌜ (i < length (now left)) × ((i < length (now right)) × ((i < length (now colour)) × ((x .last < length (now left)) × ((x .steps < 20000000) × ((i < 4096) × (x .r ≤ 64)))))) ⌝ }
-    ensures { λ r. ⌜ outcome r (now (left .exit)) (now (right .exit)) (now (colour .exit)) ≡ appendStep (state (now (left .entry)) (now (right .entry)) (now (colour .entry)) x) i ⌝ }
+    requires { ⌜ Good (length (now left)) (length (now right)) (length (now colour)) x ⌝ }
+    requires { ⌜ i < x .m ⌝ }
+    ensures { λ r. ⌜ leaves r left right colour ≡ appendStep (given left right colour x) i ⌝ }
 {
     let at = i as usize;
     if colour[at] == 2 {
@@ -143,10 +143,7 @@ fn append_step(left: &mut [u16], right: &mut [u16], colour: &mut [u8], x: Record
     if colour[at] == 0 {
         return append_white(left, right, x, i);
     }
-    Made {
-        answer: Answer::Refused(7, i),
-        rec: x,
-    }
+    rules::refusal(7, i, x)
 }
 
 // The step of a phase, where neither code 1 nor 2 is given.
@@ -157,8 +154,9 @@ pub fn phase_step(
     x: Record,
     phase: Phase,
 ) -> Made
-    requires { ⌜ (Good (length (now left)) (length (now right)) (length (now colour)) x) × (Inside (x .m) (x .r) phase) ⌝ }
-    ensures { λ r. ⌜ outcome r (now (left .exit)) (now (right .exit)) (now (colour .exit)) ≡ phaseStep (state (now (left .entry)) (now (right .entry)) (now (colour .entry)) x) phase ⌝ }
+    requires { ⌜ Good (length (now left)) (length (now right)) (length (now colour)) x ⌝ }
+    requires { ⌜ Inside (x .m) (x .r) phase ⌝ }
+    ensures { λ r. ⌜ leaves r left right colour ≡ phaseStep (given left right colour x) phase ⌝ }
 {
     match phase {
         Phase::Roots(i) => shade_step(colour, x, i, after_roots(x.m, x.r, i)),
@@ -182,16 +180,14 @@ pub fn phase_step(
     }
 }
 
-// One step of the collector. Refused: 1 and 2 for the sizes and the record, 7 where a value that the step reads is bad.
+// One step of the collector. Refused: 1 and 2 for the sizes and the record, 7 where a value that
+// the step reads is bad.
 pub fn collect(left: &mut [u16], right: &mut [u16], colour: &mut [u8], x: Record) -> Made
-    ensures { λ r. ⌜ outcome r (now (left .exit)) (now (right .exit)) (now (colour .exit)) ≡ step collecting (state (now (left .entry)) (now (right .entry)) (now (colour .entry)) x) ⌝ }
+    ensures { λ r. ⌜ leaves r left right colour ≡ step collecting (given left right colour x) ⌝ }
 {
     let code = rules::check(left.len(), right.len(), colour.len(), x);
     if code != 0 {
-        return Made {
-            answer: Answer::Refused(code, 0),
-            rec: x,
-        };
+        return rules::refusal(code, 0, x);
     }
     let phase = x.phase;
     phase_step(left, right, colour, x, phase)

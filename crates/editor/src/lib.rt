@@ -1,4 +1,5 @@
 // Look, Link and Shade, over three lent slices and a record that goes by value.
+use places::Source;
 use rules::Answer;
 use rules::Made;
 use rules::Owed;
@@ -9,12 +10,14 @@ ghost use mathlib.Core.Path.{_≡_};
 ghost use mathlib.Core.List.{List};
 ghost use Prim.Native.Nat.{ℕ, _<_};
 ghost use lib.ListN.{length};
-ghost use Rattle.rules.specs.Table.{state, outcome};
+ghost use Rattle.rules.specs.Table.{table, state, handed, outcome};
 ghost use Rattle.rules.specs.Editor.{look, linkTo, depart, pay};
 ghost use Rattle.rules.specs.Steps.{step, looking, linking, shading};
 ghost use Rattle.rules.specs.Facts.{Good, Owable};
 ghost use Rattle.rules.specs.declared.Record.{Record};
-ghost use Rattle.editor.specs.Codes.{lookCode, linkCode};
+ghost use Rattle.editor.specs.Codes.{lookCode};
+ghost use Rattle.base.specs.Lent.{was, is};
+ghost use Rattle.rules.specs.Lent.{given};
 
 fn look_code(lefts: usize, rights: usize, colours: usize, x: Record, p: Place) -> u8
     ensures { λ c. ⌜ c ≡ lookCode lefts rights colours x p ⌝ }
@@ -28,21 +31,16 @@ fn look_code(lefts: usize, rights: usize, colours: usize, x: Record, p: Place) -
 
 // Names the node at a place.
 pub fn look(left: &[u16], right: &[u16], colour: &[u8], x: Record, p: Place) -> Made
-    ensures { λ r. ⌜ outcome r (now (left .entry)) (now (right .entry)) (now (colour .entry)) ≡ step (looking p) (state (now (left .entry)) (now (right .entry)) (now (colour .entry)) x) ⌝ }
+    ensures { λ r. ⌜ outcome r (was left) (was right) (was colour)
+        ≡ step (looking p) (given left right colour x) ⌝ }
 {
     let code = look_code(left.len(), right.len(), colour.len(), x, p);
     if code != 0 {
-        return Made {
-            answer: Answer::Refused(code, 0),
-            rec: x,
-        };
+        return rules::refusal(code, 0, x);
     }
     let found = places::walk(left, right, x.m, p);
     let Walk::At(n) = found else {
-        return Made {
-            answer: Answer::Refused(7, places::stood(found)),
-            rec: x,
-        };
+        return rules::refusal(7, places::stood(found), x);
     };
     Made {
         answer: Answer::Named(n),
@@ -50,48 +48,18 @@ pub fn look(left: &[u16], right: &[u16], colour: &[u8], x: Record, p: Place) -> 
     }
 }
 
-fn link_code(
-    lefts: usize,
-    rights: usize,
-    colours: usize,
-    x: Record,
-    p: Place,
-    side: u32,
-    q: Place,
-) -> u8
-    ensures { λ c. ⌜ c ≡ linkCode lefts rights colours x p side q ⌝ }
-{
-    let checked = rules::check(lefts, rights, colours, x);
-    if checked != 0 {
-        return checked;
-    }
-    let sided = places::side_code(side);
-    if sided != 0 {
-        return sided;
-    }
-    let from = places::place_code(x.r, p);
-    if from != 0 {
-        return from;
-    }
-    let to = places::place_code(x.r, q);
-    if to != 0 {
-        return to;
-    }
-    let owed = x.owed;
-    places::owed_code(owed)
-}
-
 // Link, from its source n: the target is walked, the edge moves, the shade is owed.
 fn link_to(left: &mut [u16], right: &mut [u16], x: Record, side: u32, q: Place, n: u16) -> Made
-    requires { ⌜ (Good (length (now left)) (length (now right)) (x .m) x) × ((q .slot < x .r) × (n < x .m)) ⌝ }
-    ensures { λ r. ⌜ ((c : List ℕ) → outcome r (now (left .exit)) (now (right .exit)) c ≡ linkTo (state (now (left .entry)) (now (right .entry)) c x) side q n) ⌝ }
+    requires { ⌜ Good (length (now left)) (length (now right)) (x .m) x ⌝ }
+    requires { ⌜ q .slot < x .r ⌝ }
+    requires { ⌜ n < x .m ⌝ }
+    requires { ⌜ side < 2 ⌝ }
+    ensures { λ r. ⌜ ((c : List ℕ) → outcome r (is left) (is right) c
+        ≡ linkTo (state (was left) (was right) c x) side q n) ⌝ }
 {
     let to = places::walk(left, right, x.m, q);
     let Walk::At(t) = to else {
-        return Made {
-            answer: Answer::Refused(7, places::stood(to)),
-            rec: x,
-        };
+        return rules::refusal(7, places::stood(to), x);
     };
     table::set_edge(left, right, side, n, t);
     Made {
@@ -102,23 +70,19 @@ fn link_to(left: &mut [u16], right: &mut [u16], x: Record, side: u32, q: Place, 
 
 // Link, from its source place.
 fn link_from(left: &mut [u16], right: &mut [u16], x: Record, p: Place, side: u32, q: Place) -> Made
-    requires { ⌜ (Good (length (now left)) (length (now right)) (x .m) x) × ((p .slot < x .r) × (q .slot < x .r)) ⌝ }
-    ensures { λ r. ⌜ ((c : List ℕ) → outcome r (now (left .exit)) (now (right .exit)) c ≡ depart (state (now (left .entry)) (now (right .entry)) c x) p (linkTo (state (now (left .entry)) (now (right .entry)) c x) side q)) ⌝ }
+    requires { ⌜ Good (length (now left)) (length (now right)) (x .m) x ⌝ }
+    requires { ⌜ p .slot < x .r ⌝ }
+    requires { ⌜ q .slot < x .r ⌝ }
+    requires { ⌜ side < 2 ⌝ }
+    ensures { λ r. ⌜ ((c : List ℕ) → outcome r (is left) (is right) c
+        ≡ depart (state (was left) (was right) c x) p
+        (linkTo (state (was left) (was right) c x) side q)) ⌝ }
 {
-    let from = places::walk(left, right, x.m, p);
-    let Walk::At(n) = from else {
-        return Made {
-            answer: Answer::Refused(7, places::stood(from)),
-            rec: x,
-        };
-    };
-    if n == 0 {
-        return Made {
-            answer: Answer::Refused(8, 0),
-            rec: x,
-        };
+    let from = places::depart(left, right, x.m, p);
+    match from {
+        Source::Found(n) => link_to(left, right, x, side, q, n),
+        Source::Missing(code, n) => rules::refusal(code, n, x),
     }
-    link_to(left, right, x, side, q, n)
 }
 
 // The edge of the source on a side now points to the target, whose shade is owed.
@@ -131,14 +95,13 @@ pub fn link(
     side: u32,
     q: Place,
 ) -> Made
-    ensures { λ r. ⌜ outcome r (now (left .exit)) (now (right .exit)) (now (colour .entry)) ≡ step (linking p side q) (state (now (left .entry)) (now (right .entry)) (now (colour .entry)) x) ⌝ }
+    ensures { λ r. ⌜ outcome r (is left) (is right) (was colour)
+        ≡ step (linking p side q) (given left right colour x) ⌝ }
 {
-    let code = link_code(left.len(), right.len(), colour.len(), x, p, side, q);
+    let target = places::place_code(x.r, q);
+    let code = places::edit_code(left.len(), right.len(), colour.len(), x, p, side, target);
     if code != 0 {
-        return Made {
-            answer: Answer::Refused(code, 0),
-            rec: x,
-        };
+        return rules::refusal(code, 0, x);
     }
     link_from(left, right, x, p, side, q)
 }
@@ -146,20 +109,15 @@ pub fn link(
 // Shades the node owed; refused 6 where nothing is.
 fn pay(colour: &mut [u8], x: Record, owed: Owed) -> Made
     requires { ⌜ Owable (length (now colour)) owed ⌝ }
-    ensures { λ r. ⌜ ((l k : List ℕ) → outcome r l k (now (colour .exit)) ≡ pay (state l k (now (colour .entry)) x) owed) ⌝ }
+    ensures { λ r. ⌜ ((es : List (List ℕ)) → handed r es (is colour)
+        ≡ pay (table es (was colour) x) owed) ⌝ }
 {
     match owed {
-        Owed::Nothing => Made {
-            answer: Answer::Refused(6, 0),
-            rec: x,
-        },
+        Owed::Nothing => rules::refusal(6, 0, x),
         Owed::Node(n) => {
             let at = n as usize;
             if 2 < colour[at] {
-                return Made {
-                    answer: Answer::Refused(7, n),
-                    rec: x,
-                };
+                return rules::refusal(7, n, x);
             }
             table::shade_node(colour, n);
             Made {
@@ -172,14 +130,12 @@ fn pay(colour: &mut [u8], x: Record, owed: Owed) -> Made
 
 // Shades the node owed, and nothing is owed afterwards.
 pub fn shade(left: &[u16], right: &[u16], colour: &mut [u8], x: Record) -> Made
-    ensures { λ r. ⌜ outcome r (now (left .entry)) (now (right .entry)) (now (colour .exit)) ≡ step shading (state (now (left .entry)) (now (right .entry)) (now (colour .entry)) x) ⌝ }
+    ensures { λ r. ⌜ outcome r (was left) (was right) (is colour)
+        ≡ step shading (given left right colour x) ⌝ }
 {
     let code = rules::check(left.len(), right.len(), colour.len(), x);
     if code != 0 {
-        return Made {
-            answer: Answer::Refused(code, 0),
-            rec: x,
-        };
+        return rules::refusal(code, 0, x);
     }
     let owed = x.owed;
     pay(colour, x, owed)

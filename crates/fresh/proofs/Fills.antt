@@ -12,11 +12,13 @@ pub none : (f : ℕ → ℕ) → [] ≡ tabulate f 0
 unfolding tabulate
 none f = refl
 
-pub more : (f : ℕ → ℕ) (l : List ℕ) (i v : ℕ) → i < length l → take i l ≡ tabulate f i → v ≡ f i → take (i + 1) (set l i v) ≡ tabulate f (i + 1)
+pub more : (f : ℕ → ℕ) (l : List ℕ) (i v : ℕ) → i < length l → take i l ≡ tabulate f i → v ≡ f i
+    → take (i + 1) (set l i v) ≡ tabulate f (i + 1)
 unfolding tabulate
 more f l i v h e q = rw (add-one, take-suc-set l i v h, e, q)
 
-pub whole : (f : ℕ → ℕ) (l : List ℕ) (n i : ℕ) → length l ≡ n → n ≤ i → i ≤ n → take i l ≡ tabulate f i → l ≡ tabulate f n
+pub whole : (f : ℕ → ℕ) (l : List ℕ) (n i : ℕ) → length l ≡ n → n ≤ i → i ≤ n → take i l
+    ≡ tabulate f i → l ≡ tabulate f n
 whole f l n i h p q e =
     let k : i ≡ n = omega arith in
     sym (take-length l) ∙ ap (λ (k : ℕ). take k l) h ∙ (rw k at e)

@@ -1,18 +1,20 @@
 // Fresh: a table with every node white and the free list in rising order, and its record.
 use rules::Answer;
 use rules::Made;
-use rules::Owed;
-use rules::Phase;
 use rules::Record;
 ghost use mathlib.Core.Path.{_≡_};
+ghost use mathlib.Core.List.{[], _∷_};
 ghost use Prim.Native.Nat.{_<_, _≤_};
 ghost use lib.ListN.{length};
-ghost use Rattle.rules.specs.Table.{state, outcome};
-ghost use Rattle.rules.specs.Fresh.{nextFree, freshLeft, freshLast, freshRecord, freshState, fresh};
+ghost use Rattle.rules.specs.Table.{mostNodes, mostSlots, state};
+ghost use Rattle.rules.specs.Records.{freshRecord};
+ghost use Rattle.rules.specs.Fresh.{nextFree, freshLeft, freshLast, freshState, fresh};
+ghost use Rattle.base.specs.Lent.{was, is};
+ghost use Rattle.rules.specs.Lent.{leaves};
 
 // The node after n on the free list.
 fn next_free(m: u16, n: u16) -> u16
-    requires { ⌜ n ≤ 4096 ⌝ }
+    requires { ⌜ n ≤ mostNodes ⌝ }
     ensures { λ e. ⌜ e ≡ nextFree m n ⌝ }
 {
     if n + 1 < m {
@@ -23,7 +25,8 @@ fn next_free(m: u16, n: u16) -> u16
 
 // The left edge of node n.
 fn left_of(m: u16, r: u16, n: u16) -> u16
-    requires { ⌜ (r ≤ 64) × (n < 4096) ⌝ }
+    requires { ⌜ r ≤ mostSlots ⌝ }
+    requires { ⌜ n < mostNodes ⌝ }
     ensures { λ e. ⌜ e ≡ freshLeft m r n ⌝ }
 {
     if n == 1 {
@@ -37,8 +40,13 @@ fn left_of(m: u16, r: u16, n: u16) -> u16
 
 // Writes every node.
 fn fill(left: &mut [u16], right: &mut [u16], colour: &mut [u8], m: u16, r: u16)
-    requires { ⌜ (length (now left) ≡ m) × ((length (now right) ≡ m) × ((length (now colour) ≡ m) × ((m ≤ 4096) × (r ≤ 64)))) ⌝ }
-    ensures { λ _. ⌜ state (now (left .exit)) (now (right .exit)) (now (colour .exit)) (freshRecord m r (freshLast m r)) ≡ freshState m r ⌝ }
+    requires { ⌜ length (now left) ≡ m ⌝ }
+    requires { ⌜ length (now right) ≡ m ⌝ }
+    requires { ⌜ length (now colour) ≡ m ⌝ }
+    requires { ⌜ m ≤ mostNodes ⌝ }
+    requires { ⌜ r ≤ mostSlots ⌝ }
+    ensures { λ _. ⌜ state (is left) (is right) (is colour) (freshRecord m r (freshLast m r))
+        ≡ freshState 2 m r ⌝ }
 {
     let mut n = 0;
     while n < m {
@@ -52,7 +60,8 @@ fn fill(left: &mut [u16], right: &mut [u16], colour: &mut [u8], m: u16, r: u16)
 
 // The last free node, or FREE.
 fn last_of(m: u16, r: u16) -> u16
-    requires { ⌜ (3 ≤ m) × (r ≤ 64) ⌝ }
+    requires { ⌜ 3 ≤ m ⌝ }
+    requires { ⌜ r ≤ mostSlots ⌝ }
     ensures { λ n. ⌜ n ≡ freshLast m r ⌝ }
 {
     if r + 2 < m {
@@ -61,32 +70,13 @@ fn last_of(m: u16, r: u16) -> u16
     1
 }
 
-fn record_of(m: u16, r: u16, last: u16) -> Record
-    ensures { λ x. ⌜ x ≡ freshRecord m r last ⌝ }
-{
-    Record {
-        m,
-        r,
-        phase: Phase::Roots(0),
-        owed: Owed::Nothing,
-        last,
-        steps: 0,
-        cycles: 0,
-        took: 0,
-        blackened: 0,
-        inuse: 0,
-    }
-}
-
 // A fresh table of m nodes and r slots, and its record. Refused: 1.
 pub fn fresh(left: &mut [u16], right: &mut [u16], colour: &mut [u8], m: usize, r: usize) -> Made
-    ensures { λ d. ⌜ outcome d (now (left .exit)) (now (right .exit)) (now (colour .exit)) ≡ fresh m r (now (left .entry)) (now (right .entry)) (now (colour .entry)) ⌝ }
+    ensures { λ d. ⌜ leaves d left right colour
+        ≡ fresh m r (was left ∷ was right ∷ []) (was colour) ⌝ }
 {
     if !rules::size_ok(m, r, left.len(), right.len(), colour.len()) {
-        return Made {
-            answer: Answer::Refused(1, 0),
-            rec: record_of(0, 0, 0),
-        };
+        return rules::refusal(1, 0, Record::fresh(0, 0, 0));
     }
     let nodes = m as u16;
     let slots = r as u16;
@@ -94,6 +84,6 @@ pub fn fresh(left: &mut [u16], right: &mut [u16], colour: &mut [u8], m: usize, r
     let last = last_of(nodes, slots);
     Made {
         answer: Answer::Started(last),
-        rec: record_of(nodes, slots, last),
+        rec: Record::fresh(nodes, slots, last),
     }
 }

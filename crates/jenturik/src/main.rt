@@ -1,213 +1,199 @@
-// The schedule program: standard input to standard output, in blocks of 64 KiB. What it prints is defined and proved in crates lines and transcript.
-use lines::Told;
-use transcript::Run;
+// The schedule program: a block of standard input is read, answered and written to standard output,
+// until the input ends. What is printed is defined and proved in crates lines and transcript; here
+// is only what the system does. A call that is interrupted is made again, and a write that took a
+// part goes on behind it. A program has no exit status: one line on standard error says how the run
+// ended, unless all was answered.
+use transcript::Session;
 ghost use Prim.Native.Nat.{_≤_};
+ghost use lib.ListN.{length};
+ghost use Rattle.base.specs.Lent.{was, is};
 
-// Whether the input goes on, and where it led.
-pub struct Gone {
-    pub on: bool,
-    pub run: Run,
+// A block of the input, and an output with room for its answers: a line has at least its newline,
+// an answer at most 22 bytes.
+const BLOCK: usize = 16384;
+
+const OUT: usize = 360448;
+
+// How a run stands: it goes on, or has ended so.
+pub enum Standing {
+    Going,
+    Answered,
+    Refused,
+    Unread,
+    Unwritten,
 }
 
-fn write(out: &[u8], used: usize) {
-    if used <= out.len() {
-        io::write_all(1, &out[0..used]);
+// Where a block led, and how the run stands.
+pub struct Led {
+    pub s: Session,
+    pub standing: Standing,
+}
+
+// Whether a call that failed is made again: it was interrupted, or the other side is not ready.
+fn again() -> bool {
+    let error = os::errno();
+    if error == libc::EAGAIN {
+        libc::sched_yield();
+        return true;
     }
+    error == libc::EINTR
 }
 
-// The output is written where it has no room for one answer more.
-fn room(out: &[u8], g: Run) -> Run
-    ensures { λ r. ⌜ r .used ≤ 65514 ⌝ }
-{
-    if g.used <= 65514 {
-        return g;
-    }
-    write(out, g.used);
-    let rec = g.rec;
-    Run {
-        rec,
-        at: g.at,
-        used: 0,
-    }
-}
-
-// A block of the input from position i on.
-fn pour(
-    left: &mut [u16],
-    right: &mut [u16],
-    colour: &mut [u8],
-    line: &mut [u8],
-    out: &mut [u8],
-    g: Run,
-    input: &[u8],
-    i: usize,
-) -> Run {
-    let mut run = g;
-    let mut next = i;
-    while next < input.len() {
-        run = room(out, run);
-        let fed = transcript::feed(left, right, colour, line, out, run, input, next);
-        run = fed.run;
-        next = fed.next;
-    }
-    run
-}
-
-// The next block.
-fn next_block(
-    left: &mut [u16],
-    right: &mut [u16],
-    colour: &mut [u8],
-    line: &mut [u8],
-    out: &mut [u8],
-    g: Run,
-    input: &mut [u8],
-) -> Gone {
-    let got = libc::read(0, input);
-    let n = io::count(got, input);
-    let run = pour(left, right, colour, line, out, g, &input[..n], 0);
-    Gone { on: 0 < n, run }
-}
-
-// All blocks that are left.
-fn blocks(
-    left: &mut [u16],
-    right: &mut [u16],
-    colour: &mut [u8],
-    line: &mut [u8],
-    out: &mut [u8],
-    g: Run,
-    input: &mut [u8],
-) -> Run {
-    let mut run = g;
-    let mut turns = u64::MAX;
-    while 0 < turns {
-        let b = next_block(left, right, colour, line, out, run, input);
-        run = b.run;
-        if !b.on {
-            return run;
+// The next bytes of the input: how many came, none at its end, or below 0 where it cannot be read.
+fn read(input: &mut [u8]) -> isize {
+    let mut tries = u64::MAX;
+    while 0 < tries {
+        let got = libc::read(libc::STDIN_FILENO, input);
+        if got >= 0 {
+            return got;
         }
-        turns -= 1;
+        if !again() {
+            return got;
+        }
+        tries -= 1;
     }
-    run
+    -1
 }
 
-// The position behind a newline at end, or behind all n bytes.
-fn behind(end: usize, n: usize) -> usize {
-    if end < n {
-        return end + 1;
+// Writes a part of the bytes: how many were taken, 0 where they cannot be written.
+fn write_some(bytes: &[u8]) -> usize
+    ensures { λ r. ⌜ r ≤ length (was bytes) ⌝ }
+{
+    let mut tries = u64::MAX;
+    while 0 < tries {
+        let put = libc::write(libc::STDOUT_FILENO, bytes);
+        if put >= 0 {
+            return io::count(put, bytes);
+        }
+        if !again() {
+            return 0;
+        }
+        tries -= 1;
     }
-    n
+    0
 }
 
-// The end of the input: what is left is answered and written.
-fn close(
+// Writes all of the bytes, a part after the other.
+fn write(bytes: &[u8]) -> bool {
+    let mut done = 0;
+    while done < bytes.len() {
+        let put = write_some(&bytes[done..]);
+        if put == 0 {
+            return false;
+        }
+        done += put;
+    }
+    true
+}
+
+// Writes what a block printed.
+fn write_used(out: &[u8], s: Session) -> bool {
+    let run = s.run;
+    let used = run.used;
+    if out.len() < used {
+        return false;
+    }
+    write(&out[0..used])
+}
+
+// How the run stands after a block of n bytes, none at the end of the input, whose answers were
+// written or not.
+fn after(written: bool, s: Session, n: usize) -> Standing {
+    if !written {
+        return Standing::Unwritten;
+    }
+    if transcript::is_over(s) {
+        return Standing::Refused;
+    }
+    if n == 0 {
+        return Standing::Answered;
+    }
+    Standing::Going
+}
+
+fn goes_on(standing: Standing) -> bool {
+    match standing {
+        Standing::Going => true,
+        Standing::Answered => false,
+        Standing::Refused => false,
+        Standing::Unread => false,
+        Standing::Unwritten => false,
+    }
+}
+
+// Answers what a read delivered, and writes the answers.
+fn answer(
     left: &mut [u16],
     right: &mut [u16],
     colour: &mut [u8],
-    line: &[u8],
+    line: &mut [u8],
     out: &mut [u8],
-    g: Run,
-) {
-    let last = room(out, g);
-    let done = transcript::finish(left, right, colour, line, out, last);
-    write(out, done.used);
+    s: Session,
+    input: &[u8],
+    got: isize,
+) -> Led {
+    let n = io::count(got, input);
+    let s = transcript::turn(left, right, colour, line, out, s, input, n);
+    let standing = after(write_used(out, s), s, n);
+    Led { s, standing }
 }
 
-// The lines after the first, which ends at end; n bytes of the input are read.
+// Reads, answers and writes, a block after the other.
 fn serve(
     left: &mut [u16],
     right: &mut [u16],
     colour: &mut [u8],
     line: &mut [u8],
     out: &mut [u8],
-    g: Run,
     input: &mut [u8],
-    n: usize,
-    end: usize,
-) {
-    if input.len() < n {
-        return;
+) -> Standing {
+    let mut s = transcript::start();
+    let mut blocks = u64::MAX;
+    while 0 < blocks {
+        let got = read(input);
+        if got < 0 {
+            return Standing::Unread;
+        }
+        let led = answer(left, right, colour, line, out, s, input, got);
+        let standing = led.standing;
+        s = led.s;
+        if !goes_on(standing) {
+            return standing;
+        }
+        blocks -= 1;
     }
-    let read = pour(
-        left,
-        right,
-        colour,
-        line,
-        out,
-        g,
-        &input[0..n],
-        behind(end, n),
-    );
-    let run = blocks(left, right, colour, line, out, read, input);
-    close(left, right, colour, line, out, run);
+    Standing::Unread
 }
 
-// The program's own tables are lent in part, as many entries as there are nodes.
-fn lend(
-    left: &mut [u16],
-    right: &mut [u16],
-    colour: &mut [u8],
-    line: &mut [u8],
-    out: &mut [u8],
-    g: Run,
-    input: &mut [u8],
-    n: usize,
-    end: usize,
-) {
-    let rec = g.rec;
-    let m = rec.m as usize;
-    if left.len() < m {
-        return;
-    }
-    if right.len() < m {
-        return;
-    }
-    if colour.len() < m {
-        return;
-    }
-    serve(
-        &mut left[0..m],
-        &mut right[0..m],
-        &mut colour[0..m],
-        line,
-        out,
-        g,
-        input,
-        n,
-        end,
-    );
+fn complain(text: &[u8]) {
+    io::write_all(libc::STDERR_FILENO, text);
 }
 
-// The first line is answered, and the others unless it is refused.
-fn answer(
-    left: &mut [u16; 4096],
-    right: &mut [u16; 4096],
-    colour: &mut [u8; 4096],
-    input: &mut [u8; 65536],
-    told: Told,
-    n: usize,
-    end: usize,
-) {
-    let mut line = [0u8; 81];
-    let mut out = io::large_buffer();
-    let used = text::say(&mut out, 0, told.code, told.node);
-    if told.code != 0 {
-        write(&out, used);
-        return;
+// How the run ended, unless all was answered.
+fn tell(standing: Standing) {
+    match standing {
+        Standing::Going => {}
+        Standing::Answered => {}
+        Standing::Refused => complain(b"jenturik: the first line is refused\n"),
+        Standing::Unread => complain(b"jenturik: the input cannot be read\n"),
+        Standing::Unwritten => complain(b"jenturik: the output cannot be written\n"),
     }
-    let rec = told.rec;
-    let run = Run { rec, at: 0, used };
-    lend(left, right, colour, &mut line, &mut out, run, input, n, end);
 }
 
 fn main() {
     let mut left = [0u16; 4096];
     let mut right = [0u16; 4096];
     let mut colour = [0u8; 4096];
-    let mut input = io::large_buffer();
-    let n = io::read_full(0, &mut input);
-    let end = transcript::newline_from(&input[..n], 0);
-    let told = transcript::first_of(&mut left, &mut right, &mut colour, &input[..n], end);
-    answer(&mut left, &mut right, &mut colour, &mut input, told, n, end);
+    let mut line = [0u8; transcript::LINE];
+    let mut input = [0u8; BLOCK];
+    let mut out = [0u8; OUT];
+    let standing = serve(
+        &mut left,
+        &mut right,
+        &mut colour,
+        &mut line,
+        &mut out,
+        &mut input,
+    );
+    tell(standing);
 }

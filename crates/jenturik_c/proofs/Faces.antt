@@ -29,22 +29,27 @@ module _ (l r c w : List ℕ) where
     unfolding lastTold
     spurned-last n = pick-no _ _ _ _ h refl
 
-  -- l′, r′ and c′ are the slices as the call over the record left them, w′ the words of the record that it handed back
+  -- l′, r′ and c′ are the slices as the call over the record left them, w′ the words of the record
+  -- that it handed back
   module _ (l′ r′ c′ w′ : List ℕ) (x : Record) (h : true ≡ isRecord w) (e : x ≡ recordOf w) where
-    pub faces : (f : State → Outcome) (d : Made) (t : Told) → outcome d l′ r′ c′ ≡ f (state l r c x) → w′ ≡ wordsOf (d .rec) → t ≡ toldOf (d .answer)
+    pub faces : (f : State → Outcome) (d : Made) (t : Told) → outcome d l′ r′ c′ ≡ f (state l r c x)
+        → w′ ≡ wordsOf (d .rec) → t ≡ toldOf (d .answer)
         → faced t l′ r′ c′ w′ ≡ face f l r c w
     unfolding face
     faces f d t q v k = pick-yes _ _ _ _ h (rw (← e, ← q, v, k))
 
-    pub faces-run : (f : State → Followed) (n code : ℕ) (y : Record) → followed n code (state l′ r′ c′ y) ≡ f (state l r c x) → w′ ≡ wordsOf y
+    pub faces-run : (f : State → Followed) (n code : ℕ) (y : Record)
+        → followed n code (state l′ r′ c′ y) ≡ f (state l r c x) → w′ ≡ wordsOf y
         → facedRun n code l′ r′ c′ w′ ≡ faceRun f l r c w
     unfolding faceRun
     faces-run f n code y q v = pick-yes _ _ _ _ h (rw (← e, ← q, v))
 
-  pub faces-last : (x : Record) (n : ℕ) (a : Answer) (t : Told) → true ≡ isRecord w → x ≡ recordOf w → a ≡ lastAnswer n (state l r c x) → t ≡ toldOf a → t ≡ lastTold n l r c w
+  pub faces-last : (x : Record) (n : ℕ) (a : Answer) (t : Told) → true ≡ isRecord w → x ≡ recordOf w
+      → a ≡ lastAnswer n (state l r c x) → t ≡ toldOf a → t ≡ lastTold n l r c w
   unfolding lastTold
   faces-last x n a t h e q k = pick-yes _ _ _ _ h (rw (← e, ← q, k))
 
 -- the same where no record is read
-pub shows : (o : Outcome) (d : Made) (t : Told) (l r c w : List ℕ) → outcome d l r c ≡ o → w ≡ wordsOf (d .rec) → t ≡ toldOf (d .answer) → faced t l r c w ≡ shown o
+pub shows : (o : Outcome) (d : Made) (t : Told) (l r c w : List ℕ) → outcome d l r c ≡ o → w
+    ≡ wordsOf (d .rec) → t ≡ toldOf (d .answer) → faced t l r c w ≡ shown o
 shows o d t l r c w q v k = rw (← q, v, k)

@@ -17,13 +17,14 @@ use Rattle.rules.specs.declared.Record.{Record}
 use Rattle.schedule.specs.declared.Going.{Going}
 use Rattle.schedule.specs.Stands.{going, ended, begun, after}
 use Rattle.schedule.proofs.Loop.{Inv, inside, leaves, turns, begins}
-use Rattle.jenturik_c.specs.Flat.{stepAt, stepsFrom, stepsOf}
+use Rattle.jenturik_c.specs.Flat.{stepAt, stepsFrom, stepsOf, STEP_WORDS}
 
 -- a run begins with the record that it is given
 same-record : (code n : ℕ) (x : Record) (g : Going) → g ≡ begun code n x → g .rec ≡ x
 unfolding begun
 same-record code n x g e =
-    ap (λ (z : Going). z .rec) e ∙ split (λ (z : Going). z .rec ≡ x) (eqb code 0) (going 0 n x) (ended 0 code x) (λ h. refl) (λ h. refl)
+    ap (λ (z : Going). z .rec) e ∙ split (λ (z : Going). z .rec ≡ x) (eqb code 0) (going 0 n x)
+    (ended 0 code x) (λ h. refl) (λ h. refl)
 
 module _ (w : List ℕ) where
   many : (n i : ℕ) → length (stepsFrom w i n) ≡ n
@@ -31,42 +32,53 @@ module _ (w : List ℕ) where
   many zero i = refl
   many (suc n) i = ap suc (many n (suc i))
 
-  count : length (stepsOf w) ≡ length w / 8
+  count : length (stepsOf w) ≡ length w / STEP_WORDS
   unfolding stepsOf
-  count = many (length w / 8) 0
+  count = many (length w / STEP_WORDS) 0
 
   among : (n i j : ℕ) (b : Step) → j < n → getD (stepsFrom w i n) j b ≡ stepAt w (i + j)
   unfolding stepsFrom
   among zero i j b lt = absurd (omega (arith, lt))
   among (suc n) i zero b lt = ap (stepAt w) (sym (add-zero i))
-  among (suc n) i (suc j) b lt = among n (suc i) j b (omega (arith, lt)) ∙ ap (stepAt w) (omega arith)
+  among (suc n) i (suc j) b lt = among n (suc i) j b (omega (arith, lt))
+      ∙ ap (stepAt w) (omega arith)
 
-  at : (j : ℕ) (b : Step) → j < length w / 8 → getD (stepsOf w) j b ≡ stepAt w j
+  at : (j : ℕ) (b : Step) → j < length w / STEP_WORDS → getD (stepsOf w) j b ≡ stepAt w j
   unfolding stepsOf
-  at j b lt = among (length w / 8) 0 j b lt ∙ ap (stepAt w) (omega arith)
+  at j b lt = among (length w / STEP_WORDS) 0 j b lt ∙ ap (stepAt w) (omega arith)
 
   -- from the slices l, r and c and the record of g₀ the run stands at g and s
   abbrev pub Stands : Going → List ℕ → List ℕ → List ℕ → Going → State → Type 0
   Stands g₀ l r c g s = Inv (stepsOf w) (schedule (stepsOf w) (state l r c (g₀ .rec))) g s
 
-  pub starts : (l r c : List ℕ) (x : Record) (g : Going) → g ≡ begun (check (state l r c x)) (length w / 8) x → Stands g l r c g (state l r c (g .rec))
+  pub starts : (l r c : List ℕ) (x : Record) (g : Going)
+      → g ≡ begun (check (state l r c x)) (length w / STEP_WORDS) x
+      → Stands g l r c g (state l r c (g .rec))
   starts l r c x g e =
-      subst (λ (y : Record). Inv (stepsOf w) (schedule (stepsOf w) (state l r c y)) g (state l r c (g .rec))) (sym (same-record _ _ x g e))
-      (begins (stepsOf w) l r c x g (e ∙ ap (λ (n : ℕ). begun (check (state l r c x)) n x) (sym count)))
+      subst (λ (y : Record). Inv (stepsOf w) (schedule (stepsOf w) (state l r c y)) g
+      (state l r c (g .rec))) (sym (same-record _ _ x g e))
+      (begins (stepsOf w) l r c x g (e ∙ ap (λ (n : ℕ). begun (check (state l r c x)) n x)
+      (sym count)))
 
-  module _ (last : Followed) (g : Going) (s : State) (i : Inv (stepsOf w) last g s) (lt : g .at < g .end) where
-    below : g .at < length w / 8
+  module _ (last : Followed) (g : Going) (s : State) (i : Inv (stepsOf w) last g s)
+      (lt : g .at < g .end) where
+    below : g .at < length w / STEP_WORDS
     below = subst (λ (n : ℕ). g .at < n) count (inside (stepsOf w) last g s i lt)
 
-    pub fits : 8 * g .at + 8 ≤ length w
+    pub fits : STEP_WORDS * g .at + STEP_WORDS ≤ length w
     fits = omega (arith, below)
 
-    pub goes-on : (a : Step) (l r c : List ℕ) (g′ : Going) → a ≡ stepAt w (g .at) → ((d : Made) × ((outcome d l r c ≡ step a s) × (g′ ≡ after g (d .answer) (d .rec))))
+    pub goes-on : (a : Step) (l r c : List ℕ) (g′ : Going) → a ≡ stepAt w (g .at)
+        → ((d : Made) × ((outcome d l r c ≡ step a s) × (g′ ≡ after g (d .answer) (d .rec))))
         → Inv (stepsOf w) last g′ (state l r c (g′ .rec)) × (g′ .end - g′ .at < g .end - g .at)
     goes-on a l r c g′ q (d, (e, h)) =
-        turns (stepsOf w) last g s a d l r c g′ i lt (e ∙ ap (λ (z : Step). step z s) (q ∙ sym (at (g .at) a below))) h
+        turns (stepsOf w) last g s a d l r c g′ i lt
+        (e ∙ ap (λ (z : Step). step z s) (q ∙ sym (at (g .at) a below))) h
 
-  pub ends : (l r c : List ℕ) (x : Record) (g₀ g : Going) (s : State) → g₀ ≡ begun (check (state l r c x)) (length w / 8) x → Stands g₀ l r c g s → g .end ≤ g .at
+  pub ends : (l r c : List ℕ) (x : Record) (g₀ g : Going) (s : State)
+      → g₀ ≡ begun (check (state l r c x)) (length w / STEP_WORDS) x → Stands g₀ l r c g s
+      → g .end ≤ g .at
       → followed (g .at) (g .code) s ≡ schedule (stepsOf w) (state l r c x)
   ends l r c x g₀ g s e i le =
-      sym (leaves (stepsOf w) _ g s i le) ∙ ap (λ (y : Record). schedule (stepsOf w) (state l r c y)) (same-record _ _ x g₀ e)
+      sym (leaves (stepsOf w) _ g s i le)
+      ∙ ap (λ (y : Record). schedule (stepsOf w) (state l r c y)) (same-record _ _ x g₀ e)

@@ -1,57 +1,132 @@
--- What a call leaves as it was: Look everything, a refused step everything too, the words among it.
-use Prim.Native.Nat.{ℕ}
-use mathlib.Core.Bool.{Bool, true, false}
-use mathlib.Core.List.{List}
+-- What a call leaves as it was: Look everything, a refused step everything too, the words among it;
+-- many steps in one call leave what those that were done left; a refused Fresh leaves the slices.
+use Prim.Native.Nat.{ℕ, _%_}
+use mathlib.Core.Bool.{true}
+use mathlib.Core.List.{List, [], _∷_}
 use mathlib.Core.Path.{_≡_, refl, sym, ap, _∙_}
-use Rattle.base.specs.Choice.{pick}
-use Rattle.base.proofs.Tests.{pick-yes}
-use Rattle.rules.specs.Table.{State, Outcome, state, outcome, unless}
-use Rattle.rules.specs.Places.{arrive}
-use Rattle.rules.specs.Editor.{look}
-use Rattle.rules.specs.Steps.{step, looking}
+use lib.Dec.{eqb}
+use lib.ListN.{length, take}
+use Rattle.base.specs.Choice.{first}
+use Rattle.base.proofs.Tests.{pick-yes, split}
+use Rattle.rules.specs.Table.{State, Outcome, state, outcome}
+use Rattle.rules.specs.Check.{check}
+use Rattle.rules.specs.Records.{freshRecord}
+use Rattle.rules.specs.Fresh.{fresh}
+use Rattle.rules.specs.Steps.{step, run, looking, codeOf}
+use Rattle.rules.specs.Schedules.{Followed, followed, schedule}
 use Rattle.rules.specs.declared.Step.{Step}
 use Rattle.rules.specs.declared.Place.{Place}
 use Rattle.rules.specs.declared.Made.{Made}
+use Rattle.rules.specs.declared.Record.{Record}
+use Rattle.rules.specs.Table.{unless}
+use Rattle.rules.specs.Places.{arrive}
+use Rattle.rules.specs.Editor.{look}
 use Rattle.rules.specs.declared.Walk.{Walk}
 use Rattle.rules.specs.declared.Walk.the-variants.{At, Damaged}
-use Rattle.rules.specs.declared.Record.{Record}
 use Rattle.rules.proofs.Laws.{step-looking}
 use Rattle.rules.proofs.Refused.{refused-stays}
+use Rattle.schedule.proofs.Runs.{schedule-run}
 use Rattle.words.specs.Words.{wordsOf, recordOf, isRecord}
 use Rattle.words.proofs.RoundTrip.{words-back}
 use Rattle.jenturik_c.specs.Face.{Faced, toldOf, shown, faced, face}
+use Rattle.jenturik_c.specs.Flat.{stepsOf, scheduleOf, STEP_WORDS}
+use Rattle.jenturik_c.specs.Runs.{FacedRun, facedRun, shownRun, faceRun}
 use Rattle.jenturik_c.specs.declared.Told.{Told}
 
-either : (s : State) (b : Bool) (x y : Outcome) → x .state ≡ s → y .state ≡ s → pick b x y .state ≡ s
-unfolding pick
-either s true x y p q = p
-either s false x y p q = q
+module _ (s : State) where
+  arrived : (w : Walk) (go : ℕ → Outcome) → ((n : ℕ) → go n .state ≡ s) → arrive s w go .state ≡ s
+  unfolding arrive
+  arrived (At n) go p = p n
+  arrived (Damaged n) go p = refl
 
-arrived : (s : State) (w : Walk) (go : ℕ → Outcome) → ((n : ℕ) → go n .state ≡ s) → arrive s w go .state ≡ s
-unfolding arrive
-arrived s (At n) go p = p n
-arrived s (Damaged n) go p = refl
+  pub look-stays : (p : Place) → step (looking p) s .state ≡ s
+  unfolding look unless
+  look-stays p = rw step-looking
+      (split (λ (o : Outcome). o .state ≡ s) _ _ _ (λ q. arrived _ _ (λ n. refl)) (λ q. refl))
 
-pub look-stays : (p : Place) (s : State) → step (looking p) s .state ≡ s
-unfolding look unless
-look-stays p s = rw step-looking (either s _ _ _ (arrived s _ _ (λ n. refl)) refl)
+-- a call f that makes the steps cs until one is refused leaves what those that were done lead to
+abbrev pub Follows : (State → Followed) → List Step → Type 0
+Follows f cs = (s : State) → f s .state ≡ run (take (f s .done) cs) s
 
-module _ (l r c w : List ℕ) (h : true ≡ isRecord w) where
+pub schedule-follows : (cs : List Step) → Follows (schedule cs) cs
+schedule-follows cs s = schedule-run cs s
+
+-- a schedule of words: its whole steps, and none where words are left over
+pub words-follow : (v : List ℕ) → Follows (scheduleOf v) (stepsOf v)
+unfolding scheduleOf run
+words-follow v s =
+    split (λ (z : Followed). z .state ≡ run (take (z .done) (stepsOf v)) s)
+    (eqb (length v % STEP_WORDS) 0) (schedule (stepsOf v) s)
+    (followed 0 (first (check s ∷ 10 ∷ [])) s)
+    (λ q. schedule-run (stepsOf v) s) (λ q. refl)
+
+module _ (l r c w : List ℕ) where
+  abbrev here : State
+  here = state l r c (recordOf w)
+
+  -- where the state stays, words that are a record's are told back as they were
+  told-back : {A : Type 0} (tell : List (List ℕ) → List ℕ → List ℕ → A) (s : State)
+      → isRecord w ≡ true → s ≡ here
+      → tell (s .edges) (s .colour) (wordsOf (s .rec)) ≡ tell (l ∷ r ∷ []) c w
+  told-back tell s h e =
+      ap (λ (s : State). tell (s .edges) (s .colour) (wordsOf (s .rec))) e
+      ∙ ap (λ (v : List ℕ). tell (l ∷ r ∷ []) c v) (words-back w (sym h))
+
   -- Look's contract over words that it does not write
-  pub looked : (p : Place) (d : Made) (x : Record) (t : Told) → x ≡ recordOf w → outcome d l r c ≡ step (looking p) (state l r c x) → t ≡ toldOf (d .answer)
+  pub looked : true ≡ isRecord w → (p : Place) (d : Made) (x : Record) (t : Told) → x ≡ recordOf w
+      → outcome d l r c ≡ step (looking p) (state l r c x) → t ≡ toldOf (d .answer)
       → faced t l r c w ≡ face (step (looking p)) l r c w
   unfolding face
-  looked p d x t e k v =
-      let same = ap (λ (o : Outcome). o .state) k ∙ look-stays p (state l r c x) in
+  looked h p d x t e k v =
+      let same = ap (λ (o : Outcome). o .state) k ∙ look-stays (state l r c x) p in
       let back = ap wordsOf (ap (λ (s : State). s .rec) same ∙ e) ∙ words-back w h in
       pick-yes _ _ _ _ h (rw (← e, ← k, back, v))
 
-  -- a step that is refused changes neither the slices nor the words
-  pub refused-kept : (a : Step) → (face (step a) l r c w .told .code ≡ 0 → ⊥) → face (step a) l r c w ≡ faced (face (step a) l r c w .told) l r c w
+  -- a call of one step that is refused changes neither the slices nor the words, whatever they are
+  pub refused-kept : (a : Step) → (face (step a) l r c w .told .code ≡ 0 → ⊥)
+      → face (step a) l r c w ≡ faced (face (step a) l r c w .told) l r c w
   unfolding face
-  refused-kept a n =
-      let o = step a (state l r c (recordOf w)) in
-      let e : face (step a) l r c w ≡ shown o = sym (pick-yes _ _ _ _ h refl) in
-      let same = refused-stays (state l r c (recordOf w)) a (λ z. n (ap (λ (f : Faced). f .told .code) e ∙ z)) in
-      let back = ap (λ (s : State). wordsOf (s .rec)) same ∙ words-back w h in
-      cc
+  refused-kept a =
+      split (λ (z : Faced). (z .told .code ≡ 0 → ⊥) → z ≡ faced (z .told) l r c w) (isRecord w) _ _
+      (λ h n.
+      let o = step a here in
+      told-back (λ es k v. record { told = toldOf (o .answer); edges = es; colour = k; words = v })
+      (o .state) h (refused-stays here a n))
+      (λ h n. refl)
+
+  -- of many steps in one call those that were done stand, and no other changed anything
+  pub done-kept : true ≡ isRecord w → (f : State → Followed) (cs : List Step) → Follows f cs
+      → faceRun f l r c w
+      ≡ shownRun (followed (f here .done) (f here .code) (run (take (f here .done) cs) here))
+  unfolding faceRun
+  done-kept h f cs k =
+      sym (pick-yes _ _ _ _ h refl)
+      ∙ ap (λ (s : State). shownRun (followed (f here .done) (f here .code) s)) (k here)
+
+  -- where none was done, neither the slices nor the words changed, whatever they are
+  pub none-kept : (f : State → Followed) (cs : List Step) → Follows f cs
+      → faceRun f l r c w .done ≡ 0
+      → faceRun f l r c w ≡ facedRun 0 (faceRun f l r c w .code) l r c w
+  unfolding faceRun run
+  none-kept f cs k =
+      split (λ (z : FacedRun). z .done ≡ 0 → z ≡ facedRun 0 (z .code) l r c w) (isRecord w) _ _
+      (λ h n.
+      let z = f here in
+      let same = k here ∙ ap (λ (d : ℕ). run (take d cs) here) n in
+      told-back
+      (λ es k v. record { done = z .done; code = z .code; edges = es; colour = k; words = v })
+      (z .state) h same
+      ∙ ap (λ (d : ℕ). facedRun d (z .code) l r c w) n)
+      (λ h n. refl)
+
+-- a refused Fresh leaves the slices, and writes the words of a table of no nodes
+module _ (l r c : List ℕ) where
+  abbrev pub Refused : Faced
+  Refused = faced (record { what = 0; code = 1; node = 0 }) l r c (wordsOf (freshRecord 0 0 0))
+
+  pub fresh-kept : (m slots : ℕ) → (codeOf (fresh m slots (l ∷ r ∷ []) c .answer) ≡ 0 → ⊥)
+      → shown (fresh m slots (l ∷ r ∷ []) c) ≡ Refused
+  unfolding fresh
+  fresh-kept m slots =
+      split (λ (o : Outcome). (codeOf (o .answer) ≡ 0 → ⊥) → shown o ≡ Refused) _ _ _
+      (λ q n. absurd (n refl)) (λ q n. refl)

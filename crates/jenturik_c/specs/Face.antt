@@ -1,18 +1,17 @@
--- What a call does for a caller that keeps the record as words.
+-- What a call does for a caller that keeps the record as words: the section C of docs/RULES.md.
 use Rattle.base.specs.Choice.{pick}
 use Prim.Native.Nat.{ℕ}
-use mathlib.Core.Bool.{true}
-use mathlib.Core.Path.{_≡_}
-use mathlib.Core.List.{List}
+use mathlib.Core.List.{List, [], _∷_}
 use Rattle.rules.specs.Table.{State, Outcome, state}
 use Rattle.rules.specs.Steps.{codeOf, nodeOf}
 use Rattle.rules.specs.declared.Place.{Place}
 use Rattle.rules.specs.declared.Answer.{Answer}
-use Rattle.rules.specs.declared.Answer.the-variants.{Started, Named, Linked, Taken, Shaded, Looked, Blackened, Whitened, Appended, Refused}
+use Rattle.rules.specs.declared.Answer.the-variants.{Started, Named, Linked, Taken, Shaded, Looked}
+use Rattle.rules.specs.declared.Answer.the-variants.{Blackened, Whitened, Appended, Refused}
 use Rattle.words.specs.Words.{wordsOf, recordOf, isRecord}
 use Rattle.jenturik_c.specs.declared.Told.{Told}
 
--- what was done: 0 where nothing was
+-- [C 5] what was done: 0 where nothing was
 abbrev pub whatOf : Answer → ℕ
 whatOf (Refused code n) = 0
 whatOf (Started n) = 1
@@ -31,28 +30,31 @@ toldOf a = record { what = whatOf a; code = codeOf a; node = nodeOf a }
 -- what is told, and the three slices and the words as the call leaves them
 pub record Faced : Type 0 where
   pub told : Told
-  pub left : List ℕ
-  pub right : List ℕ
+  pub edges : List (List ℕ)
   pub colour : List ℕ
   pub words : List ℕ
 
 abbrev pub faced : Told → List ℕ → List ℕ → List ℕ → List ℕ → Faced
-faced t l r c w = record { told = t; left = l; right = r; colour = c; words = w }
+faced t l r c w = record { told = t; edges = l ∷ r ∷ []; colour = c; words = w }
 
+-- [C 6] what a call tells and leaves, the new record as words: Fresh too, whatever it answers
 abbrev pub shown : Outcome → Faced
-shown o = faced (toldOf (o .answer)) (o .state .left) (o .state .right) (o .state .colour) (wordsOf (o .state .rec))
+shown o = record {
+  told =
+      toldOf (o .answer);
+  edges = o .state .edges;
+  colour = o .state .colour;
+  words = wordsOf
+      (o .state .rec);
+}
 
--- words that are no record's
+-- [C 4] words that are no record's
 abbrev pub noRecord : Told
 noRecord = record { what = 0; code = 2; node = 0 }
 
--- the call f, where the words are a record's; else nothing changes
+-- [C 1] the call f, where the words are a record's; [C 4] else nothing changes
 unfoldable pub face : (State → Outcome) → List ℕ → List ℕ → List ℕ → List ℕ → Faced
 face f l r c w = pick (isRecord w) (shown (f (state l r c (recordOf w)))) (faced noRecord l r c w)
-
--- words that are a record's stay a record's
-abbrev pub Stays : List ℕ → List ℕ → Type 0
-Stays w v = true ≡ isRecord w → true ≡ isRecord v
 
 -- a place as a caller gives it
 abbrev pub placeOf : ℕ → ℕ → ℕ → Place

@@ -1,3 +1,4 @@
 pub mod Face
 pub mod Flat
 pub mod Runs
+pub mod Lent

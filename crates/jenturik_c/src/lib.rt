@@ -1,21 +1,52 @@
-// The library for callers in C: each call over three slices and sixteen words that the caller keeps.
+// The library for callers in C: each call over three slices and the record's words, which the
+// caller keeps.
 use rules::Answer;
 use rules::Place;
 use rules::Ran;
 use rules::Record;
 use rules::Step;
 ghost use mathlib.Core.Path.{_≡_};
+ghost use mathlib.Core.List.{[], _∷_};
 ghost use Prim.Native.Nat.{_+_, _*_, _/_, _≤_};
 ghost use lib.ListN.{length};
 ghost use mathlib.Core.Bool.{true};
-ghost use Rattle.rules.specs.Table.{state};
 ghost use Rattle.rules.specs.Fresh.{fresh};
 ghost use Rattle.rules.specs.Steps.{step, taking, linking, shading, collecting, looking};
 ghost use Rattle.rules.specs.Schedules.{ran, schedule, collects};
 ghost use Rattle.words.specs.Words.{isRecord};
-ghost use Rattle.jenturik_c.specs.Face.{whatOf, toldOf, noRecord, shown, faced, face, Stays, placeOf};
-ghost use Rattle.jenturik_c.specs.Flat.{stepAt, stepsOf, scheduleOf};
-ghost use Rattle.jenturik_c.specs.Runs.{facedRun, faceRun, lastOf, lastTold};
+ghost use Rattle.jenturik_c.specs.Face.{whatOf, toldOf, noRecord, shown, placeOf};
+ghost use Rattle.jenturik_c.specs.Flat.{STEP_WORDS, zeros, kindAt, ofKind, stepAt, stepsOf};
+ghost use Rattle.jenturik_c.specs.Flat.{scheduleOf};
+ghost use Rattle.jenturik_c.specs.Runs.{lastOf};
+ghost use Rattle.jenturik_c.specs.Lent.{kept, tells, facing, runs, facingRun};
+ghost use Rattle.jenturik_c.specs.Lent.{facingLast, Stays};
+ghost use Rattle.base.specs.Lent.{was, is};
+ghost use Rattle.rules.specs.Lent.{given};
+
+// How many words a step of a schedule has, and the number of each, by the names of
+// include/jenturik.h. From UNUSED on they have no use.
+const STEP_WORDS: usize = 12;
+
+const KIND: usize = 0;
+
+const SLOT: usize = 1;
+
+const COUNT: usize = 2;
+
+const WORD: usize = 3;
+
+const SIDE: usize = 4;
+
+const TOSLOT: usize = 5;
+
+const TOCOUNT: usize = 6;
+
+const TOWORD: usize = 7;
+
+const UNUSED: usize = 8;
+
+// A kind that no step has.
+const NO_KIND: u32 = 4294967295;
 
 // What a call answers: what was done (0: refused), the code, the node.
 #[repr(C)]
@@ -32,7 +63,8 @@ pub struct Done {
     pub code: u32,
 }
 
-// What many steps of the collector answer: how many were done, and what the last one answers, or the one that was refused.
+// What many steps of the collector answer: how many were done, and what the last one answers, or
+// the one that was refused.
 #[repr(C)]
 pub struct Last {
     pub done: usize,
@@ -85,11 +117,13 @@ pub extern "C" fn jenturik_fresh(
     left: &mut [u16],
     right: &mut [u16],
     colour: &mut [u8],
-    words: &mut [u32; 16],
+    words: &mut [u32; words::WORDS],
     nodes: u32,
     slots: u32,
 ) -> Told
-    ensures { λ t. ⌜ (faced t (now (left .exit)) (now (right .exit)) (now (colour .exit)) (now (words .exit)) ≡ shown (fresh nodes slots (now (left .entry)) (now (right .entry)) (now (colour .entry)))) × (true ≡ isRecord (now (words .exit))) ⌝ }
+    ensures { λ t. ⌜ tells t left right colour words
+        ≡ shown (fresh nodes slots (was left ∷ was right ∷ []) (was colour)) ⌝ }
+    ensures { λ t. ⌜ true ≡ isRecord (is words) ⌝ }
 {
     let made = fresh::fresh(left, right, colour, nodes as usize, slots as usize);
     let rec = made.rec;
@@ -105,12 +139,13 @@ pub extern "C" fn jenturik_look(
     left: &[u16],
     right: &[u16],
     colour: &[u8],
-    words: &[u32; 16],
+    words: &[u32; words::WORDS],
     slot: u32,
     count: u32,
     word: u32,
 ) -> Told
-    ensures { λ t. ⌜ faced t (now (left .entry)) (now (right .entry)) (now (colour .entry)) (now (words .entry)) ≡ face (step (looking (placeOf slot count word))) (now (left .entry)) (now (right .entry)) (now (colour .entry)) (now (words .entry)) ⌝ }
+    ensures { λ t. ⌜ tells t (kept left) (kept right) (kept colour) (kept words)
+        ≡ facing (step (looking (placeOf slot count word))) left right colour words ⌝ }
 {
     let w = *words;
     if !words::is_record(w) {
@@ -128,7 +163,7 @@ pub extern "C" fn jenturik_link(
     left: &mut [u16],
     right: &mut [u16],
     colour: &[u8],
-    words: &mut [u32; 16],
+    words: &mut [u32; words::WORDS],
     slot: u32,
     count: u32,
     word: u32,
@@ -137,7 +172,10 @@ pub extern "C" fn jenturik_link(
     tocount: u32,
     toword: u32,
 ) -> Told
-    ensures { λ t. ⌜ (faced t (now (left .exit)) (now (right .exit)) (now (colour .entry)) (now (words .exit)) ≡ face (step (linking (placeOf slot count word) side (placeOf toslot tocount toword))) (now (left .entry)) (now (right .entry)) (now (colour .entry)) (now (words .entry))) × Stays (now (words .entry)) (now (words .exit)) ⌝ }
+    ensures { λ t. ⌜ tells t left right (kept colour) words
+        ≡ facing (step (linking (placeOf slot count word) side (placeOf toslot tocount toword)))
+        left right colour words ⌝ }
+    ensures { λ t. ⌜ Stays words ⌝ }
 {
     let w = *words;
     if !words::is_record(w) {
@@ -163,9 +201,11 @@ pub extern "C" fn jenturik_shade(
     left: &[u16],
     right: &[u16],
     colour: &mut [u8],
-    words: &mut [u32; 16],
+    words: &mut [u32; words::WORDS],
 ) -> Told
-    ensures { λ t. ⌜ (faced t (now (left .entry)) (now (right .entry)) (now (colour .exit)) (now (words .exit)) ≡ face (step shading) (now (left .entry)) (now (right .entry)) (now (colour .entry)) (now (words .entry))) × Stays (now (words .entry)) (now (words .exit)) ⌝ }
+    ensures { λ t. ⌜ tells t (kept left) (kept right) colour words
+        ≡ facing (step shading) left right colour words ⌝ }
+    ensures { λ t. ⌜ Stays words ⌝ }
 {
     let w = *words;
     if !words::is_record(w) {
@@ -185,13 +225,15 @@ pub extern "C" fn jenturik_take(
     left: &mut [u16],
     right: &mut [u16],
     colour: &mut [u8],
-    words: &mut [u32; 16],
+    words: &mut [u32; words::WORDS],
     slot: u32,
     count: u32,
     word: u32,
     side: u32,
 ) -> Told
-    ensures { λ t. ⌜ (faced t (now (left .exit)) (now (right .exit)) (now (colour .exit)) (now (words .exit)) ≡ face (step (taking (placeOf slot count word) side)) (now (left .entry)) (now (right .entry)) (now (colour .entry)) (now (words .entry))) × Stays (now (words .entry)) (now (words .exit)) ⌝ }
+    ensures { λ t. ⌜ tells t left right colour words
+        ≡ facing (step (taking (placeOf slot count word) side)) left right colour words ⌝ }
+    ensures { λ t. ⌜ Stays words ⌝ }
 {
     let w = *words;
     if !words::is_record(w) {
@@ -212,9 +254,11 @@ pub extern "C" fn jenturik_collect(
     left: &mut [u16],
     right: &mut [u16],
     colour: &mut [u8],
-    words: &mut [u32; 16],
+    words: &mut [u32; words::WORDS],
 ) -> Told
-    ensures { λ t. ⌜ (faced t (now (left .exit)) (now (right .exit)) (now (colour .exit)) (now (words .exit)) ≡ face (step collecting) (now (left .entry)) (now (right .entry)) (now (colour .entry)) (now (words .entry))) × Stays (now (words .entry)) (now (words .exit)) ⌝ }
+    ensures { λ t. ⌜ tells t left right colour words
+        ≡ facing (step collecting) left right colour words ⌝ }
+    ensures { λ t. ⌜ Stays words ⌝ }
 {
     let w = *words;
     if !words::is_record(w) {
@@ -234,10 +278,13 @@ pub extern "C" fn jenturik_collect_many(
     left: &mut [u16],
     right: &mut [u16],
     colour: &mut [u8],
-    words: &mut [u32; 16],
+    words: &mut [u32; words::WORDS],
     n: usize,
 ) -> Last
-    ensures { λ r. ⌜ (facedRun (r .done) (r .code) (now (left .exit)) (now (right .exit)) (now (colour .exit)) (now (words .exit)) ≡ faceRun (schedule (collects n)) (now (left .entry)) (now (right .entry)) (now (colour .entry)) (now (words .entry))) × (lastOf r ≡ lastTold n (now (left .entry)) (now (right .entry)) (now (colour .entry)) (now (words .entry))) × Stays (now (words .entry)) (now (words .exit)) ⌝ }
+    ensures { λ r. ⌜ runs (r .done) (r .code) left right colour words
+        ≡ facingRun (schedule (collects n)) left right colour words ⌝ }
+    ensures { λ r. ⌜ lastOf r ≡ facingLast n left right colour words ⌝ }
+    ensures { λ r. ⌜ Stays words ⌝ }
 {
     let w = *words;
     if !words::is_record(w) {
@@ -261,29 +308,73 @@ pub extern "C" fn jenturik_collect_many(
     }
 }
 
-// The i-th step of a schedule of words, eight to a step.
-fn step_at(steps: &[u32], i: usize) -> Step
-    requires { ⌜ 8 * i + 8 ≤ length (now steps) ⌝ }
-    ensures { λ a. ⌜ a ≡ stepAt (now (steps .entry)) i ⌝ }
+// Whether four words from the n-th on are 0.
+fn zeros(steps: &[u32], n: usize) -> bool
+    requires { ⌜ n + 4 ≤ length (now steps) ⌝ }
+    ensures { λ ok. ⌜ ok ≡ zeros (was steps) n ⌝ }
 {
-    let at = 8 * i;
-    Step {
-        kind: steps[at],
-        slot: steps[at + 1],
-        count: steps[at + 2],
-        word: steps[at + 3],
-        side: steps[at + 4],
-        toslot: steps[at + 5],
-        tocount: steps[at + 6],
-        toword: steps[at + 7],
+    if steps[n] != 0 {
+        return false;
     }
+    if steps[n + 1] != 0 {
+        return false;
+    }
+    if steps[n + 2] != 0 {
+        return false;
+    }
+    steps[n + 3] == 0
+}
+
+// The kind of the i-th step: none that can be read where a word without a use is not 0.
+fn kind_at(steps: &[u32], i: usize) -> u32
+    requires { ⌜ STEP_WORDS * i + STEP_WORDS ≤ length (now steps) ⌝ }
+    ensures { λ k. ⌜ k ≡ kindAt (was steps) i ⌝ }
+{
+    let at = STEP_WORDS * i;
+    if !zeros(steps, at + UNUSED) {
+        return NO_KIND;
+    }
+    steps[at + KIND]
+}
+
+// The i-th step, of a kind.
+fn of_kind(steps: &[u32], i: usize, kind: u32) -> Step
+    requires { ⌜ STEP_WORDS * i + STEP_WORDS ≤ length (now steps) ⌝ }
+    ensures { λ a. ⌜ a ≡ ofKind (was steps) i kind ⌝ }
+{
+    let at = STEP_WORDS * i;
+    Step {
+        kind,
+        slot: steps[at + SLOT],
+        count: steps[at + COUNT],
+        word: steps[at + WORD],
+        side: steps[at + SIDE],
+        toslot: steps[at + TOSLOT],
+        tocount: steps[at + TOCOUNT],
+        toword: steps[at + TOWORD],
+    }
+}
+
+// The i-th step of a schedule of words.
+fn step_at(steps: &[u32], i: usize) -> Step
+    requires { ⌜ STEP_WORDS * i + STEP_WORDS ≤ length (now steps) ⌝ }
+    ensures { λ a. ⌜ a ≡ stepAt (was steps) i ⌝ }
+{
+    of_kind(steps, i, kind_at(steps, i))
 }
 
 // The whole steps of a schedule of words, in order until one is refused.
 fn follow(steps: &[u32], left: &mut [u16], right: &mut [u16], colour: &mut [u8], x: Record) -> Ran
-    ensures { λ r. ⌜ ran r (now (left .exit)) (now (right .exit)) (now (colour .exit)) ≡ schedule (stepsOf (now (steps .entry))) (state (now (left .entry)) (now (right .entry)) (now (colour .entry)) x) ⌝ }
+    ensures { λ r. ⌜ ran r (is left) (is right) (is colour)
+        ≡ schedule (stepsOf (was steps)) (given left right colour x) ⌝ }
 {
-    let mut g = schedule::begin(left.len(), right.len(), colour.len(), x, steps.len() / 8);
+    let mut g = schedule::begin(
+        left.len(),
+        right.len(),
+        colour.len(),
+        x,
+        steps.len() / STEP_WORDS,
+    );
     while g.at < g.end {
         g = schedule::advance(left, right, colour, g, step_at(steps, g.at));
     }
@@ -303,9 +394,10 @@ fn schedule_of(
     colour: &mut [u8],
     x: Record,
 ) -> Ran
-    ensures { λ r. ⌜ ran r (now (left .exit)) (now (right .exit)) (now (colour .exit)) ≡ scheduleOf (now (steps .entry)) (state (now (left .entry)) (now (right .entry)) (now (colour .entry)) x) ⌝ }
+    ensures { λ r. ⌜ ran r (is left) (is right) (is colour)
+        ≡ scheduleOf (was steps) (given left right colour x) ⌝ }
 {
-    if steps.len() % 8 != 0 {
+    if steps.len() % STEP_WORDS != 0 {
         return Ran {
             done: 0,
             code: calls::unreadable(left.len(), right.len(), colour.len(), x),
@@ -315,16 +407,18 @@ fn schedule_of(
     follow(steps, left, right, colour, x)
 }
 
-// A schedule: steps of eight words each, in order until one is refused.
+// A schedule of words: its steps in order, until one is refused.
 #[no_mangle]
 pub extern "C" fn jenturik_schedule(
     left: &mut [u16],
     right: &mut [u16],
     colour: &mut [u8],
-    words: &mut [u32; 16],
+    words: &mut [u32; words::WORDS],
     steps: &[u32],
 ) -> Done
-    ensures { λ r. ⌜ (facedRun (r .done) (r .code) (now (left .exit)) (now (right .exit)) (now (colour .exit)) (now (words .exit)) ≡ faceRun (scheduleOf (now (steps .entry))) (now (left .entry)) (now (right .entry)) (now (colour .entry)) (now (words .entry))) × Stays (now (words .entry)) (now (words .exit)) ⌝ }
+    ensures { λ r. ⌜ runs (r .done) (r .code) left right colour words
+        ≡ facingRun (scheduleOf (was steps)) left right colour words ⌝ }
+    ensures { λ r. ⌜ Stays words ⌝ }
 {
     let w = *words;
     if !words::is_record(w) {

@@ -1,99 +1,157 @@
--- The first line: a table in the first entries of longer lists.
-use Prim.Native.Nat.{ℕ, _-_, _<_, _≤_}
-use mathlib.Core.Bool.{Bool, true, false}
+-- The first line in the program's own tables: with the full 4,096 entries it prints and begins what
+-- `first` says, whatever they held.
+use Prim.Native.Nat.{ℕ, zero, suc, _<_, _≤_}
+use mathlib.Core.Bool.{Bool, true, false, true≢false}
 use mathlib.Core.Path.{_≡_, refl, sym, ap, _∙_}
-use mathlib.Core.List.{List, [], _++_}
+use mathlib.Core.List.{List, [], _∷_}
 use native.Mathlib.Omega.{arith}
-use lib.ListN.{length, take, drop, replicate, length-replicate, take-append-drop}
-use native.Mathlib.Nat.{sub-zero}
-use lib.Seq.{take-at, drop-at, length-take-le}
-use Rattle.base.specs.Choice.{pick}
-use Rattle.base.proofs.Tests.{every-skip, every-here, le-yes, le-no}
-use Rattle.rules.specs.Table.{State, state}
+use borrow.Author.Tests.{leb-true, leb-false}
+use lib.Dec.{leb}
+use lib.ListN.{length, getD, take, drop, replicate, length-append, length-replicate}
+use lib.Seq.{take-at, length-take-le}
+use Rattle.base.specs.Choice.{pick, every}
+use Rattle.base.proofs.Tests.{every-skip, every-here, every-last, each, split, le-yes, le-no}
+use Rattle.rules.specs.Table.{State, Outcome, state}
 use Rattle.rules.specs.Check.{sizeOk}
-use Rattle.rules.specs.Fresh.{fresh, freshLast, freshState, freshRecord}
-use Rattle.rules.specs.declared.Record.{Record}
+use Rattle.rules.specs.Records.{freshRecord}
+use Rattle.rules.specs.Fresh.{tabulate, fresh, freshLast, freshState}
 use Rattle.rules.specs.declared.Answer.the-variants.{Started, Refused}
-use Rattle.text.specs.declared.Said.the-variants.{First}
-use Rattle.lines.specs.Lines.{Line, prints, answered, noTable, first}
-use Rattle.lines.specs.Lines.{Rest, Begun}
-use Rattle.lines.specs.declared.Told.{Told}
+use Rattle.text.specs.declared.Said.{Said}
+use Rattle.text.specs.declared.Said.the-variants.{First, Do, Collect, Unreadable}
+use Rattle.lines.specs.Lines.{Line, answered, placed, failed, opened, first, entries}
 
-pub front : (l r c l′ r′ c′ : List ℕ) (x : Record) (m code node : ℕ) (o : Line) → length l ≡ m → length r ≡ m → length c ≡ m
-    → prints code node (state l r c x) ≡ o → prints code node (state (take m (l ++ l′)) (take m (r ++ r′)) (take m (c ++ c′)) x) ≡ o
-front l r c l′ r′ c′ x m code node o p q s e = rw (take-at l l′ m p, take-at r r′ m q, take-at c c′ m s) e
+-- the table in the first m entries
+abbrev pub fronts : ℕ → State → State
+fronts m s =
+    state (take m (getD (s .edges) 0 [])) (take m (getD (s .edges) 1 [])) (take m (s .colour))
+    (s .rec)
 
-pub back : (l l₀ : List ℕ) (m : ℕ) → length l ≡ m → drop m (l ++ drop (m - 0) l₀) ≡ drop m l₀
-back l l₀ m e = rw sub-zero (drop-at l (drop m l₀) m e)
+-- what a first line prints in the program's own tables, t, is what is told of it, u; and so is the
+-- table, unless it fails
+pub record Opens (t u : Line) : Type 0 where
+  pub code : t .code ≡ u .code
+  pub node : t .node ≡ u .node
+  pub table : u .code ≡ 0 → fronts (t .state .rec .m) (t .state) ≡ u .state
 
--- a fresh table in lists of m entries, whatever they hold
-judged : (m r : ℕ) (l k c : List ℕ) → length l ≡ m → length k ≡ m → length c ≡ m
-    → fresh m r l k c ≡ pick (sizeOk m r m m m) (record { answer = Started (freshLast m r); state = freshState m r })
-    (record { answer = Refused 1 0; state = state l k c (freshRecord 0 0 0) })
-unfolding fresh
-judged m r l k c p q s = rw (p, q, s)
+length-tabulate : (f : ℕ → ℕ) (n : ℕ) → length (tabulate f n) ≡ n
+unfolding tabulate
+length-tabulate f zero = refl
+length-tabulate f (suc n) = length-append (tabulate f n) (f n ∷ [])
+    ∙ omega (arith, length-tabulate f n)
 
--- nothing is begun
-pub fails : (t : Told) (l k c : List ℕ) (line : Line) (code : ℕ) → prints (t .code) (t .node) (state [] [] [] (t .rec)) ≡ prints code 0 noTable
-    → code ≡ line .code → 0 ≡ line .node → freshRecord 0 0 0 ≡ line .state .rec → (code ≡ 0 → ⊥) → Begun t l k c l k c line
-fails t l k c line code e p q s h =
-    let a : t .code ≡ code = ap (λ (o : Line). o .code) e in
-    record { code = a ∙ p; node = ap (λ (o : Line). o .node) e ∙ q; rec = ap (λ (o : Line). o .state .rec) e ∙ s; table = λ z. absurd (h (sym a ∙ z)); rest = (refl, refl, refl) }
-
--- lists that are the same in front and behind
-whole : (m : ℕ) (l l₀ : List ℕ) → take m l ≡ take m l₀ → drop m l ≡ drop m l₀ → l ≡ l₀
-whole m l l₀ p q = sym (take-append-drop m l) ∙ rw (p, q) (take-append-drop m l₀)
-
+-- Fresh in lists of m entries, whatever they hold
 module _ (m r : ℕ) where
-  begins : State → Line
-  begins s =
-      answered (pick (sizeOk m r m m m) (record { answer = Started (freshLast m r); state = freshState m r }) (record { answer = Refused 1 0; state = s }))
+  fresh-in : State → Outcome
+  fresh-in s =
+      pick (sizeOk m r (m ∷ m ∷ []) m) (record
+      { answer = Started (freshLast m r); state = freshState 2 m r })
+      (record { answer = Refused 1 0; state = s })
 
-  blank : State
-  blank = state (replicate m 0) (replicate m 0) (replicate m 0) (freshRecord 0 0 0)
+  judged : (l k c : List ℕ) → length l ≡ m → length k ≡ m → length c ≡ m
+      → fresh m r (l ∷ k ∷ []) c ≡ fresh-in (state l k c (freshRecord 0 0 0))
+  unfolding fresh fresh-in
+  judged l k c p q s = rw (p, q, s)
 
-  stated : first (First m r) ≡ begins blank
-  unfolding first begins blank
-  stated = ap answered (judged m r _ _ _ (length-replicate m 0) (length-replicate m 0) (length-replicate m 0))
+  stated : first (First m r) ≡ answered
+      (fresh-in (state (replicate m 0) (replicate m 0) (replicate m 0) (freshRecord 0 0 0)))
+  unfolding first
+  stated =
+      ap answered (judged _ _ _ (length-replicate m 0) (length-replicate m 0)
+      (length-replicate m 0))
 
-  large : 4096 < m → false ≡ sizeOk m r m m m
+  large : entries < m → false ≡ sizeOk m r (m ∷ m ∷ []) m
   unfolding sizeOk
-  large h = every-skip _ _ _ (le-yes 3 m (omega arith)) (every-here _ _ (le-no m 4096 h))
+  large h = every-skip _ _ _ (le-yes 3 m (omega arith)) (every-here _ _ (le-no m entries h))
 
-  pub too-large : (t : Told) (l k c : List ℕ) → 4096 < m → prints (t .code) (t .node) (state [] [] [] (t .rec)) ≡ prints 1 0 noTable
-      → Begun t l k c l k c (first (First m r))
-  unfolding begins blank pick
-  too-large t l k c h e = rw (stated, ← large h) (fails t l k c _ 1 e refl refl refl (λ z. omega arith))
+  tables : (l k c : List ℕ) → fronts m
+      (placed (record { answer = Started (freshLast m r); state = freshState 2 m r }) l k c .state)
+      ≡ freshState 2 m r
+  unfolding freshState
+  tables l k c =
+      rw (
+        take-at _ l m (length-tabulate _ m),
+        take-at _ k m (length-tabulate _ m),
+        take-at _ c m
+            (length-tabulate _ m),
+      )
 
-  module _ (t : Told) (l k c l₀ k₀ c₀ : List ℕ) (d : Rest m l k c l₀ k₀ c₀) where
-    kept : prints (t .code) (t .node) (state (take m l) (take m k) (take m c) (t .rec)) ≡ prints 0 (freshLast m r) (freshState m r)
-        → Begun t l k c l₀ k₀ c₀ (prints 0 (freshLast m r) (freshState m r))
-    unfolding freshState
-    kept e =
-        let n : t .rec .m ≡ m = ap (λ (o : Line). o .state .rec .m) e in
-        record { code = ap (λ (o : Line). o .code) e; node = ap (λ (o : Line). o .node) e; rec = ap (λ (o : Line). o .state .rec) e; table = λ z. ap (λ (i : ℕ). state (take i l) (take i k) (take i c) (t .rec)) n ∙ ap (λ (o : Line). o .state) e; rest = rw n d }
-
-    lost : (s : State) → s .rec ≡ freshRecord 0 0 0
-        → prints (t .code) (t .node) (state (take m l) (take m k) (take m c) (t .rec)) ≡ prints 1 0 (state (take m l₀) (take m k₀) (take m c₀) (freshRecord 0 0 0))
-        → Begun t l k c l₀ k₀ c₀ (prints 1 0 s)
-    lost s b e =
-        let a : t .code ≡ 1 = ap (λ (o : Line). o .code) e in
-        let x : t .rec ≡ freshRecord 0 0 0 = ap (λ (o : Line). o .state .rec) e in
-        let p = whole m l l₀ (ap (λ (o : Line). o .state .left) e) (d .0) in
-        let q = whole m k k₀ (ap (λ (o : Line). o .state .right) e) (d .1) in
-        let r = whole m c c₀ (ap (λ (o : Line). o .state .colour) e) (d .2) in
-        record { code = a; node = ap (λ (o : Line). o .node) e; rec = x ∙ sym b; table = λ z. absurd (omega arith); rest = rw x (p, q, r) }
-
-    -- r is what `start` left of longer lists
-    pub begun : m ≤ length l₀ → m ≤ length k₀ → m ≤ length c₀
-        → prints (t .code) (t .node) (state (take m l) (take m k) (take m c) (t .rec)) ≡ answered (fresh m r (take m l₀) (take m k₀) (take m c₀))
-        → Begun t l k c l₀ k₀ c₀ (first (First m r))
-    unfolding begins blank pick
-    begun p q s e =
-        rw stated (go (sizeOk m r m m m) refl (e ∙ ap answered (judged m r _ _ _ (length-take-le m l₀ p) (length-take-le m k₀ q) (length-take-le m c₀ s))))
+  module _ (l k c : List ℕ) where
+    begun : m ≤ length l → m ≤ length k → m ≤ length c
+        → Opens (placed (fresh m r (take m l ∷ take m k ∷ []) (take m c)) (drop m l) (drop m k)
+        (drop m c)) (first (First m r))
+    unfolding fresh-in freshState pick
+    begun p q s =
+        rw (
+          stated,
+          judged (take m l) (take m k) (take m c) (length-take-le m l p)
+              (length-take-le m k q) (length-take-le m c s),
+        )
+        (go (sizeOk m r (m ∷ m ∷ []) m))
       where
-        go : (b : Bool) → sizeOk m r m m m ≡ b
-            → prints (t .code) (t .node) (state (take m l) (take m k) (take m c) (t .rec)) ≡ begins (state (take m l₀) (take m k₀) (take m c₀) (freshRecord 0 0 0))
-            → Begun t l k c l₀ k₀ c₀ (begins blank)
-        go true z f = rw z (kept (rw z at f))
-        go false z f = rw z (lost _ refl (rw z at f))
+        go : (b : Bool)
+            → Opens
+            (placed
+            (pick b (record { answer = Started (freshLast m r); state = freshState 2 m r })
+            (record {
+              answer = Refused 1 0;
+              state = state (take m l) (take m k) (take m c)
+                  (freshRecord 0 0 0);
+            })) (drop m l) (drop m k) (drop m c))
+            (answered
+            (pick b (record { answer = Started (freshLast m r); state = freshState 2 m r })
+            (record {
+              answer = Refused 1 0;
+              state = state (replicate m 0) (replicate m 0)
+                  (replicate m 0) (freshRecord 0 0 0);
+            })))
+        go true = record {
+          code =
+              refl;
+          node = refl;
+          table = λ _. tables (drop m l) (drop m k) (drop m c);
+        }
+        go false = record { code = refl; node = refl; table = λ z. absurd (omega arith) }
+
+    too-large : entries < m → Opens (failed 1 l k c) (first (First m r))
+    unfolding fresh-in pick
+    too-large h =
+        rw (stated, ← large h)
+        (record { code = refl; node = refl; table = λ z. absurd (omega arith) })
+
+    opens : entries ≤ length l → entries ≤ length k → entries ≤ length c
+        → Opens (opened (First m r) l k c) (first (First m r))
+    unfolding opened
+    opens p q s =
+        split (λ (t : Line). Opens t (first (First m r))) tests _ _
+        (λ e. let h = each _ (sym e) in
+        begun (leb-true _ _ (h .0)) (leb-true _ _ (h .1 .0)) (leb-true _ _ (h .1 .1 .0)))
+        (λ e. go (leb m entries) refl e)
+      where
+        tests : Bool
+        tests = every (leb m (length l) ∷ leb m (length k) ∷ leb m (length c) ∷ [])
+
+        go : (b : Bool) → leb m entries ≡ b → tests ≡ false
+            → Opens (failed 1 l k c) (first (First m r))
+        go true e f =
+            let h = leb-true m entries e in
+            absurd
+            (true≢false (every-skip _ _ _ (le-yes m (length l) (omega arith))
+            (every-skip _ _ _ (le-yes m (length k) (omega arith))
+            (every-last _ _ (le-yes m (length c) (omega arith)))) ∙ f))
+        go false e f = too-large (leb-false m entries e)
+
+-- the first line in tables of 4,096 entries or more
+pub opens-first : (said : Said) (l k c : List ℕ) → entries ≤ length l → entries ≤ length k
+    → entries ≤ length c → Opens (opened said l k c) (first said)
+unfolding opened first
+opens-first (First m r) l k c p q s = opens m r l k c p q s
+opens-first (Do a) l k c p q s = record
+    { code = refl; node = refl; table = λ z. absurd (omega arith) }
+opens-first (Collect n) l k c p q s = record
+    { code = refl; node = refl; table = λ z. absurd (omega arith) }
+opens-first Unreadable l k c p q s = record {
+  code =
+      refl;
+  node = refl;
+  table = λ z. absurd (omega arith);
+}

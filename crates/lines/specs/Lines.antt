@@ -1,19 +1,16 @@
--- What a line prints, and what it leaves. Document 01, "The schedule program".
-use Rattle.base.specs.Choice.{pick}
+-- What a line prints, and what it leaves: the section Program of docs/RULES.md.
+use Rattle.base.specs.Choice.{pick, every}
 use Prim.Native.Nat.{ℕ, _-_}
-use mathlib.Core.List.{List, []}
-use lib.ListN.{replicate}
-use lib.Dec.{eqb}
+use mathlib.Core.List.{List, [], _∷_, _++_}
+use lib.ListN.{length, getD, take, drop, replicate}
+use lib.Dec.{leb, eqb}
 use Rattle.rules.specs.Table.{State, Outcome, state}
-use Rattle.rules.specs.Fresh.{fresh, freshRecord}
-use Rattle.rules.specs.Records.{position}
+use Rattle.rules.specs.Fresh.{fresh}
+use Rattle.rules.specs.Records.{position, freshRecord}
 use Rattle.rules.specs.Steps.{step, codeOf, nodeOf}
 use Rattle.rules.specs.Schedules.{schedule, collects}
 use Rattle.text.specs.declared.Said.{Said}
 use Rattle.text.specs.declared.Said.the-variants.{First, Do, Collect, Unreadable}
-use mathlib.Core.Path.{_≡_}
-use lib.ListN.{take, drop}
-use Rattle.lines.specs.declared.Told.{Told}
 
 -- the code and the node that a line prints, and the state that it leaves
 pub record Line : Type 0 where
@@ -24,22 +21,23 @@ pub record Line : Type 0 where
 abbrev pub prints : ℕ → ℕ → State → Line
 prints code node s = record { code = code; node = node; state = s }
 
--- "`node` is: for the first line, last; take, the node taken; link, the target; shade, the node shaded; look, the node named"
+-- [Program 13] a line prints the answer's code and node
 abbrev pub answered : Outcome → Line
 answered o = prints (codeOf (o .answer)) (nodeOf (o .answer)) (o .state)
 
--- "0 if none was made"
+-- [Program 14] 0 where no step was done
 unfoldable pub startOf : ℕ → ℕ → ℕ
 startOf done i = pick (eqb done 0) 0 i
 
--- "`collect` makes that many collector steps (0 to 1,000,000), stopping at a refusal": node is "the position's i before its last step"; where a step is refused it is the last
+-- [Program 7] n collector steps, or until one is refused; [Program 14] the node is the i at which
+-- the last of them stood, a refused one too
 unfoldable pub collected : ℕ → State → Line
 collected n s =
     let f = schedule (collects n) s in
     let before = schedule (collects (n - 1)) s .state in
     prints (f .code) (startOf (f .done) (position (before .rec .phase))) (f .state)
 
--- a line after the first; one that is "not of this form [..] prints code 10 and is skipped"
+-- a line after the first; [Program 9] one that is of no form of theirs
 unfoldable pub later : Said → State → Line
 later (Do a) s = answered (step a s)
 later (Collect n) s = collected n s
@@ -49,21 +47,35 @@ later Unreadable s = prints 10 0 s
 abbrev pub noTable : State
 noTable = state [] [] [] (freshRecord 0 0 0)
 
--- the first line: a fresh table
+-- [Program 2] the first line: a fresh table; [Program 10] or its code and node 0
 unfoldable pub first : Said → Line
-first (First m r) = answered (fresh m r (replicate m 0) (replicate m 0) (replicate m 0))
+first (First m r) = answered (fresh m r (replicate m 0 ∷ replicate m 0 ∷ []) (replicate m 0))
 first (Do a) = prints 10 0 noTable
 first (Collect n) = prints 10 0 noTable
 first Unreadable = prints 10 0 noTable
 
--- the entries from m on are as they were
-abbrev pub Rest : ℕ → List ℕ → List ℕ → List ℕ → List ℕ → List ℕ → List ℕ → Type 0
-Rest m l r c l₀ r₀ c₀ = (drop m l ≡ drop m l₀) × (drop m r ≡ drop m r₀) × (drop m c ≡ drop m c₀)
+-- the same with the program's own tables, which hold l, k and c: the table is made in their first m
+-- entries, and the others stay
+abbrev pub placed : Outcome → List ℕ → List ℕ → List ℕ → Line
+placed o l k c =
+    prints (codeOf (o .answer)) (nodeOf (o .answer))
+    (state (getD (o .state .edges) 0 [] ++ l) (getD (o .state .edges) 1 [] ++ k)
+    (o .state .colour ++ c) (o .state .rec))
 
--- a first line's answer, and the table in the first entries of the program's own, which held l₀, r₀ and c₀; where the line is refused the record's M is 0, so that all are as they were
-pub record Begun (t : Told) (l r c l₀ r₀ c₀ : List ℕ) (line : Line) : Type 0 where
-  pub code : t .code ≡ line .code
-  pub node : t .node ≡ line .node
-  pub rec : t .rec ≡ line .state .rec
-  pub table : t .code ≡ 0 → state (take (t .rec .m) l) (take (t .rec .m) r) (take (t .rec .m) c) (t .rec) ≡ line .state
-  pub rest : Rest (t .rec .m) l r c l₀ r₀ c₀
+-- a first line that fails leaves them as they are, and no table
+abbrev pub failed : ℕ → List ℕ → List ℕ → List ℕ → Line
+failed code l k c = prints code 0 (state l k c (freshRecord 0 0 0))
+
+-- [Program 15] a table that has no room in the program's own is too large
+unfoldable pub opened : Said → List ℕ → List ℕ → List ℕ → Line
+opened (First m r) l k c =
+    pick (every (leb m (length l) ∷ leb m (length k) ∷ leb m (length c) ∷ []))
+    (placed (fresh m r (take m l ∷ take m k ∷ []) (take m c)) (drop m l) (drop m k) (drop m c))
+    (failed 1 l k c)
+opened (Do a) l k c = failed 10 l k c
+opened (Collect n) l k c = failed 10 l k c
+opened Unreadable l k c = failed 10 l k c
+
+-- the entries of the program's own tables
+abbrev pub entries : ℕ
+entries = 4096

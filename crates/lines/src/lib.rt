@@ -1,19 +1,21 @@
-// What a line of the schedule program does: the first, and a later one. The definitions are in specs/.
+// What a line of the schedule program does: the first, and a later one. The definitions are in
+// specs/.
 use rules::Made;
-use rules::Owed;
-use rules::Phase;
 use rules::Ran;
 use rules::Record;
 use text::Said;
 ghost use mathlib.Core.Path.{_≡_};
 ghost use Prim.Native.Nat.{ℕ, _+_, _≤_, _<_};
-ghost use mathlib.Core.List.{List, []};
-ghost use lib.ListN.{length, take};
+ghost use mathlib.Core.List.{List, [], _∷_};
+ghost use lib.ListN.{length, take, drop};
 ghost use Rattle.rules.specs.Table.{state, outcome};
 ghost use Rattle.rules.specs.Fresh.{fresh};
 ghost use Rattle.rules.specs.Schedules.{ran, schedule, collects};
 ghost use Rattle.text.specs.Grammar.{read};
-ghost use Rattle.lines.specs.Lines.{prints, answered, startOf, collected, later, noTable, first, Rest, Begun};
+ghost use Rattle.lines.specs.Lines.{prints, answered, startOf, collected, later, placed};
+ghost use Rattle.lines.specs.Lines.{failed, opened};
+ghost use Rattle.base.specs.Lent.{was, is};
+ghost use Rattle.rules.specs.Lent.{given};
 
 // What a line prints, and the record that it leaves.
 pub struct Told {
@@ -23,7 +25,8 @@ pub struct Told {
 }
 
 fn answered(d: Made) -> Told
-    ensures { λ t. ⌜ ((l r c : List ℕ) → prints (t .code) (t .node) (state l r c (t .rec)) ≡ answered (outcome d l r c)) ⌝ }
+    ensures { λ t. ⌜ ((l r c : List ℕ) → prints (t .code) (t .node) (state l r c (t .rec))
+        ≡ answered (outcome d l r c)) ⌝ }
 {
     let answer = d.answer;
     let rec = d.rec;
@@ -45,7 +48,8 @@ fn start_of(done: usize, i: u16) -> u16
 
 // So many collector steps, until one is refused.
 fn collect_many(left: &mut [u16], right: &mut [u16], colour: &mut [u8], x: Record, n: usize) -> Ran
-    ensures { λ r. ⌜ ran r (now (left .exit)) (now (right .exit)) (now (colour .exit)) ≡ schedule (collects n) (state (now (left .entry)) (now (right .entry)) (now (colour .entry)) x) ⌝ }
+    ensures { λ r. ⌜ ran r (is left) (is right) (is colour)
+        ≡ schedule (collects n) (given left right colour x) ⌝ }
 {
     let made = batch::collect_many(left, right, colour, x, n);
     let answer = made.answer;
@@ -60,7 +64,8 @@ fn collect_many(left: &mut [u16], right: &mut [u16], colour: &mut [u8], x: Recor
 // All collector steps of a line but the last, then the last.
 fn collect_some(left: &mut [u16], right: &mut [u16], colour: &mut [u8], x: Record, n: u32) -> Told
     requires { ⌜ 0 < n ⌝ }
-    ensures { λ t. ⌜ prints (t .code) (t .node) (state (now (left .exit)) (now (right .exit)) (now (colour .exit)) (t .rec)) ≡ collected n (state (now (left .entry)) (now (right .entry)) (now (colour .entry)) x) ⌝ }
+    ensures { λ t. ⌜ prints (t .code) (t .node) (state (is left) (is right) (is colour) (t .rec))
+        ≡ collected n (given left right colour x) ⌝ }
 {
     let most = collect_many(left, right, colour, x, (n - 1) as usize);
     let rec = most.rec;
@@ -83,7 +88,8 @@ fn collect_some(left: &mut [u16], right: &mut [u16], colour: &mut [u8], x: Recor
 }
 
 fn collect(left: &mut [u16], right: &mut [u16], colour: &mut [u8], x: Record, n: u32) -> Told
-    ensures { λ t. ⌜ prints (t .code) (t .node) (state (now (left .exit)) (now (right .exit)) (now (colour .exit)) (t .rec)) ≡ collected n (state (now (left .entry)) (now (right .entry)) (now (colour .entry)) x) ⌝ }
+    ensures { λ t. ⌜ prints (t .code) (t .node) (state (is left) (is right) (is colour) (t .rec))
+        ≡ collected n (given left right colour x) ⌝ }
 {
     if 0 < n {
         return collect_some(left, right, colour, x, n);
@@ -99,7 +105,8 @@ fn collect(left: &mut [u16], right: &mut [u16], colour: &mut [u8], x: Record, n:
 
 // What a line after the first prints, and what it leaves.
 pub fn later(left: &mut [u16], right: &mut [u16], colour: &mut [u8], x: Record, line: &[u8]) -> Told
-    ensures { λ t. ⌜ prints (t .code) (t .node) (state (now (left .exit)) (now (right .exit)) (now (colour .exit)) (t .rec)) ≡ later (read (now (line .entry))) (state (now (left .entry)) (now (right .entry)) (now (colour .entry)) x) ⌝ }
+    ensures { λ t. ⌜ prints (t .code) (t .node) (state (is left) (is right) (is colour) (t .rec))
+        ≡ later (read (was line)) (given left right colour x) ⌝ }
 {
     let said = text::read(line);
     match said {
@@ -120,47 +127,51 @@ pub fn later(left: &mut [u16], right: &mut [u16], colour: &mut [u8], x: Record, 
 
 // A fresh table in the first m entries.
 fn start(left: &mut [u16], right: &mut [u16], colour: &mut [u8], m: usize, r: usize) -> Told
-    requires { ⌜ (m ≤ length (now left)) × ((m ≤ length (now right)) × (m ≤ length (now colour))) ⌝ }
-    ensures { λ t. ⌜ prints (t .code) (t .node) (state (take m (now (left .exit))) (take m (now (right .exit))) (take m (now (colour .exit))) (t .rec)) ≡ answered (fresh m r (take m (now (left .entry))) (take m (now (right .entry))) (take m (now (colour .entry)))) ⌝ }
-    ensures { λ _. ⌜ Rest m (now (left .exit)) (now (right .exit)) (now (colour .exit)) (now (left .entry)) (now (right .entry)) (now (colour .entry)) ⌝ }
+    requires { ⌜ m ≤ length (now left) ⌝ }
+    requires { ⌜ m ≤ length (now right) ⌝ }
+    requires { ⌜ m ≤ length (now colour) ⌝ }
+    ensures { λ t. ⌜ prints (t .code) (t .node) (state (is left) (is right) (is colour) (t .rec))
+        ≡ placed (fresh m r (take m (was left) ∷ take m (was right) ∷ []) (take m (was colour)))
+        (drop m (was left)) (drop m (was right)) (drop m (was colour)) ⌝ }
 {
     answered(fresh::fresh(&mut left[0..m], &mut right[0..m], &mut colour[0..m], m, r))
 }
 
 // A first line that fails: no table.
 fn refused(code: u8) -> Told
-    ensures { λ t. ⌜ prints (t .code) (t .node) (state [] [] [] (t .rec)) ≡ prints code 0 noTable ⌝ }
+    ensures { λ t. ⌜ ((l k c : List ℕ) → prints (t .code) (t .node) (state l k c (t .rec))
+        ≡ failed code l k c) ⌝ }
 {
-    let rec = Record {
-        m: 0,
-        r: 0,
-        phase: Phase::Roots(0),
-        owed: Owed::Nothing,
-        last: 0,
-        steps: 0,
-        cycles: 0,
-        took: 0,
-        blackened: 0,
-        inuse: 0,
-    };
-    Told { code, node: 0, rec }
+    Told {
+        code,
+        node: 0,
+        rec: Record::fresh(0, 0, 0),
+    }
 }
 
-// A fresh table of m nodes and r slots in tables of 4,096 entries.
+// A fresh table of m nodes and r slots, where the tables have room for it.
 fn begin(left: &mut [u16], right: &mut [u16], colour: &mut [u8], m: u32, r: u32) -> Told
-    requires { ⌜ (4096 ≤ length (now left)) × ((4096 ≤ length (now right)) × (4096 ≤ length (now colour))) ⌝ }
-    ensures { λ t. ⌜ Begun t (now (left .exit)) (now (right .exit)) (now (colour .exit)) (now (left .entry)) (now (right .entry)) (now (colour .entry)) (first (Said.First m r)) ⌝ }
+    ensures { λ t. ⌜ prints (t .code) (t .node) (state (is left) (is right) (is colour) (t .rec))
+        ≡ opened (Said.First m r) (was left) (was right) (was colour) ⌝ }
 {
-    if 4096 < m {
+    let nodes = m as usize;
+    if left.len() < nodes {
         return refused(1);
     }
-    start(left, right, colour, m as usize, r as usize)
+    if right.len() < nodes {
+        return refused(1);
+    }
+    if colour.len() < nodes {
+        return refused(1);
+    }
+    start(left, right, colour, nodes, r as usize)
 }
 
-// What the first line prints, and the table that it begins.
+// What the first line prints, and the table that it begins in the first entries of the program's
+// own.
 pub fn first(left: &mut [u16], right: &mut [u16], colour: &mut [u8], line: &[u8]) -> Told
-    requires { ⌜ (4096 ≤ length (now left)) × ((4096 ≤ length (now right)) × (4096 ≤ length (now colour))) ⌝ }
-    ensures { λ t. ⌜ Begun t (now (left .exit)) (now (right .exit)) (now (colour .exit)) (now (left .entry)) (now (right .entry)) (now (colour .entry)) (first (read (now (line .entry)))) ⌝ }
+    ensures { λ t. ⌜ prints (t .code) (t .node) (state (is left) (is right) (is colour) (t .rec))
+        ≡ opened (read (was line)) (was left) (was right) (was colour) ⌝ }
 {
     let said = text::read(line);
     match said {

@@ -8,37 +8,33 @@ ghost use Prim.Native.Nat.{ℕ, _+_, _-_, _<_, _≤_, _%_};
 ghost use lib.ListN.{length, getD, set};
 ghost use Rattle.rules.specs.Table.{state, shadeIn};
 ghost use Rattle.rules.specs.declared.Phase.the-variants.{Scan};
-ghost use Rattle.skim.specs.Stirs.{stop, stirs, Calm};
-ghost use Rattle.strides.specs.Leads.{Passes, Room, Leads, Fit};
-ghost use Rattle.mark.specs.Spots.{standing, Known, Goes, Ripe};
+ghost use Rattle.skim.specs.Stops.{stops, NoStop};
+ghost use Rattle.strides.specs.Leads.{Passes, Room, Leads, CanShade};
+ghost use Rattle.mark.specs.Marking.{standing, Valid, ScanLeads, CanVisit};
+ghost use Rattle.base.specs.Lent.{was, is};
+ghost use Rattle.rules.specs.Lent.{given};
 
-// Where the marking stands: Scan i, k; nodes blackened; steps made here; how many colours stop a look, at most; and the node that was lit last.
-struct Spot {
+// Where the marking stands: Scan i, k; nodes blackened; steps made here; how many colours stop a
+// look, at most; and the node that was made gray last.
+struct ScanAt {
     i: usize,
     k: usize,
-    dark: usize,
+    blackened: usize,
     d: usize,
-    stirs: usize,
-    lit: usize,
+    stops: usize,
+    grayed: usize,
 }
 
-fn standing(x: Record, s: Spot) -> Record
-    requires { ⌜ (s .i < 4096) × ((s .k ≤ 4096) × ((s .dark ≤ 4096) × (x .steps + s .d < 20000000))) ⌝ }
+fn standing(mut x: Record, s: ScanAt) -> Record
+    requires { ⌜ s .i < 4096 ⌝ }
+    requires { ⌜ s .k ≤ 4096 ⌝ }
+    requires { ⌜ s .blackened ≤ 4096 ⌝ }
+    requires { ⌜ x .steps + s .d < 20000000 ⌝ }
     ensures { λ r. ⌜ r ≡ standing x s ⌝ }
 {
-    let owed = x.owed;
-    Record {
-        m: x.m,
-        r: x.r,
-        phase: Phase::Scan(s.i as u16, s.k as u16),
-        owed,
-        last: x.last,
-        steps: x.steps + s.d as u32,
-        cycles: x.cycles,
-        took: x.took,
-        blackened: s.dark as u16,
-        inuse: x.inuse,
-    }
+    x.steps = x.steps + s.d as u32;
+    x.blackened = s.blackened as u16;
+    x.with_phase(Phase::Scan(s.i as u16, s.k as u16))
 }
 
 // n modulo m, for n below two rounds.
@@ -54,7 +50,9 @@ fn around(n: usize, m: usize) -> usize
 
 // How far it is from i to t, round the end of the table.
 fn gap(i: usize, t: usize, m: usize) -> usize
-    requires { ⌜ (i < m) × ((t < m) × (m ≤ 4096)) ⌝ }
+    requires { ⌜ i < m ⌝ }
+    requires { ⌜ t < m ⌝ }
+    requires { ⌜ m ≤ 4096 ⌝ }
     ensures { λ e. ⌜ (i ≤ t → i + e ≡ t) × (t < i → i + e ≡ t + m) ⌝ }
 {
     if i <= t {
@@ -63,48 +61,54 @@ fn gap(i: usize, t: usize, m: usize) -> usize
     t + m - i
 }
 
-// How many looks from i on, at most near, find nothing: none stops where no colour does, and only at the node lit last where that is the only one.
-fn ahead(colour: &[u8], m: usize, s: Spot, near: usize) -> usize
-    requires { ⌜ (length (now colour) ≡ m) × ((m ≤ 4096) × ((stirs (now colour) 0 m ≤ s .stirs) × ((s .i < m) × (s .lit < m)))) ⌝ }
-    ensures { λ e. ⌜ (e ≤ near) × Calm (now (colour .entry)) m (s .i) e ⌝ }
+// How many looks from i on, at most near, find nothing: none stops where no colour does, and only
+// at the node made gray last where that is the only one.
+fn idle_looks(colour: &[u8], m: usize, s: ScanAt, near: usize) -> usize
+    requires { ⌜ length (now colour) ≡ m ⌝ }
+    requires { ⌜ m ≤ 4096 ⌝ }
+    requires { ⌜ stops (now colour) 0 m ≤ s .stops ⌝ }
+    requires { ⌜ s .i < m ⌝ }
+    requires { ⌜ s .grayed < m ⌝ }
+    ensures { λ e. ⌜ (e ≤ near) × NoStop (was colour) m (s .i) e ⌝ }
 {
     let i = s.i;
-    let t = s.lit;
-    if skim::stops(colour[i]) != 0 {
+    let t = s.grayed;
+    if skim::stop(colour[i]) != 0 {
         return 0;
     }
-    if s.stirs == 0 {
+    if s.stops == 0 {
         return near;
     }
-    if s.stirs == 1 {
+    if s.stops == 1 {
         if colour[t] == 1 {
             return strides::least(near, gap(i, t, m));
         }
     }
-    skim::calm(colour, i, strides::least(near, m - i))
+    skim::until_stop(colour, i, strides::least(near, m - i))
 }
 
 // The looks that find nothing, all at once.
-fn hop(left: &[u16], right: &[u16], colour: &[u8], x: Record, cap: usize, s: Spot) -> Spot
-    requires { ⌜ (Known (now left) (now right) (now colour) x cap s) × (Room x cap) ⌝ }
-    ensures { λ r. ⌜ Goes (now (left .entry)) (now (right .entry)) (now (colour .entry)) x cap s (now (colour .entry)) r ⌝ }
+fn look_on(left: &[u16], right: &[u16], colour: &[u8], x: Record, cap: usize, s: ScanAt) -> ScanAt
+    requires { ⌜ Valid (now left) (now right) (now colour) x cap s ⌝ }
+    requires { ⌜ Room x cap ⌝ }
+    ensures { λ r. ⌜ ScanLeads (was left) (was right) (was colour) x cap s (was colour) r ⌝ }
 {
     let m = x.m as usize;
-    let e = ahead(colour, m, s, strides::least(cap - s.d, s.k - 1));
-    Spot {
+    let e = idle_looks(colour, m, s, strides::least(cap - s.d, s.k - 1));
+    ScanAt {
         i: around(s.i + e, m),
         k: s.k - e,
-        dark: s.dark,
+        blackened: s.blackened,
         d: s.d + e,
-        stirs: s.stirs,
-        lit: s.lit,
+        stops: s.stops,
+        grayed: s.grayed,
     }
 }
 
 // Whether e is a good edge to a node with a good colour.
-fn edge_fit(m: u16, colour: &[u8], e: u16) -> bool
+fn can_shade(m: u16, colour: &[u8], e: u16) -> bool
     requires { ⌜ m ≤ length (now colour) ⌝ }
-    ensures { λ ok. ⌜ (ok ≡ true → Fit m (now (colour .entry)) e) ⌝ }
+    ensures { λ ok. ⌜ (ok ≡ true → CanShade m (was colour) e) ⌝ }
 {
     if m <= e {
         return false;
@@ -117,30 +121,34 @@ fn edge_fit(m: u16, colour: &[u8], e: u16) -> bool
 }
 
 // Whether node i is gray and its four steps can be made.
-fn ripe(left: &[u16], right: &[u16], colour: &[u8], x: Record, cap: usize, s: Spot) -> bool
-    requires { ⌜ (Known (now left) (now right) (now colour) x cap s) × (Room x cap) ⌝ }
-    ensures { λ ok. ⌜ (ok ≡ true → Ripe (now (left .entry)) (now (right .entry)) (now (colour .entry)) x cap s) ⌝ }
+fn can_visit(left: &[u16], right: &[u16], colour: &[u8], x: Record, cap: usize, s: ScanAt) -> bool
+    requires { ⌜ Valid (now left) (now right) (now colour) x cap s ⌝ }
+    requires { ⌜ Room x cap ⌝ }
+    ensures { λ ok. ⌜ (ok ≡ true → CanVisit (was left) (was right) (was colour) x cap s) ⌝ }
 {
     if cap - s.d < 4 {
         return false;
     }
-    if x.m as usize <= s.dark {
+    if x.m as usize <= s.blackened {
         return false;
     }
     let i = s.i;
     if colour[i] != 1 {
         return false;
     }
-    if !edge_fit(x.m, colour, left[i]) {
+    if !can_shade(x.m, colour, left[i]) {
         return false;
     }
-    edge_fit(x.m, colour, right[i])
+    can_shade(x.m, colour, right[i])
 }
 
 // Shades a node; 1 where that makes it gray.
-fn light(colour: &mut [u8], n: u16) -> usize
+fn shade_and_count(colour: &mut [u8], n: u16) -> usize
     requires { ⌜ n < length (now colour) ⌝ }
-    ensures { λ r. ⌜ (r ≤ 1) × ((now (colour .exit) ≡ shadeIn (now (colour .entry)) n) × (stirs (now (colour .exit)) 0 (length (now (colour .exit))) ≤ stirs (now (colour .entry)) 0 (length (now (colour .entry))) + r)) ⌝ }
+    ensures { λ r. ⌜ (r ≤ 1) × ((is colour
+        ≡ shadeIn (was colour) n) ×
+        (stops (is colour) 0 (length (is colour)) ≤ stops (was colour) 0 (length (was colour)) +
+        r)) ⌝ }
 {
     let at = n as usize;
     if colour[at] == 0 {
@@ -152,12 +160,12 @@ fn light(colour: &mut [u8], n: u16) -> usize
 
 fn blacken(colour: &mut [u8], i: usize)
     requires { ⌜ i < length (now colour) ⌝ }
-    ensures { λ _. ⌜ now (colour .exit) ≡ set (now (colour .entry)) i 2 ⌝ }
+    ensures { λ _. ⌜ is colour ≡ set (was colour) i 2 ⌝ }
 {
     colour[i] = 2;
 }
 
-// f where it was lit, else e.
+// f where it was made gray, else e.
 fn newer(e: u16, f: u16, b: usize) -> usize
     ensures { λ r. ⌜ ((m : ℕ) → e < m → f < m → r < m) ⌝ }
 {
@@ -167,70 +175,88 @@ fn newer(e: u16, f: u16, b: usize) -> usize
     e as usize
 }
 
-// How many nodes were lit, and one of them.
-struct Lit {
+// How many nodes were made gray, and one of them.
+struct Grayed {
     more: usize,
     node: usize,
 }
 
 // Shades e and f, and makes i, which is gray, black.
-fn spread(colour: &mut [u8], i: usize, e: u16, f: u16) -> Lit
-    requires { ⌜ (i < length (now colour)) × ((e < length (now colour)) × ((f < length (now colour)) × (getD (now colour) i 0 ≡ 1))) ⌝ }
-    ensures { λ r. ⌜ (r .more ≤ 2) × (((m : ℕ) → e < m → f < m → r .node < m) × ((now (colour .exit) ≡ set (shadeIn (shadeIn (now (colour .entry)) e) f) i 2) × (stirs (now (colour .exit)) 0 (length (now (colour .exit))) + 1 ≤ stirs (now (colour .entry)) 0 (length (now (colour .entry))) + r .more))) ⌝ }
+fn spread(colour: &mut [u8], i: usize, e: u16, f: u16) -> Grayed
+    requires { ⌜ i < length (now colour) ⌝ }
+    requires { ⌜ e < length (now colour) ⌝ }
+    requires { ⌜ f < length (now colour) ⌝ }
+    requires { ⌜ getD (now colour) i 0 ≡ 1 ⌝ }
+    ensures { λ r. ⌜ (r .more ≤ 2) × (((m : ℕ) → e < m → f < m
+        → r .node < m) × ((is colour
+        ≡ set (shadeIn (shadeIn (was colour) e) f) i 2) ×
+        (stops (is colour) 0 (length (is colour)) + 1 ≤ stops (was colour) 0
+        (length (was colour)) + r .more))) ⌝ }
 {
-    let a = light(colour, e);
-    let b = light(colour, f);
+    let a = shade_and_count(colour, e);
+    let b = shade_and_count(colour, f);
     blacken(colour, i);
-    Lit {
+    Grayed {
         more: a + b,
         node: newer(e, f, b),
     }
 }
 
 // The four steps at a gray node.
-fn visit(left: &[u16], right: &[u16], colour: &mut [u8], x: Record, cap: usize, s: Spot) -> Spot
-    requires { ⌜ (Known (now left) (now right) (now colour) x cap s) × ((Room x cap) × (Ripe (now left) (now right) (now colour) x cap s)) ⌝ }
-    ensures { λ r. ⌜ Goes (now (left .entry)) (now (right .entry)) (now (colour .entry)) x cap s (now (colour .exit)) r ⌝ }
+fn visit(left: &[u16], right: &[u16], colour: &mut [u8], x: Record, cap: usize, s: ScanAt) -> ScanAt
+    requires { ⌜ Valid (now left) (now right) (now colour) x cap s ⌝ }
+    requires { ⌜ Room x cap ⌝ }
+    requires { ⌜ CanVisit (now left) (now right) (now colour) x cap s ⌝ }
+    ensures { λ r. ⌜ ScanLeads (was left) (was right) (was colour) x cap s (is colour) r ⌝ }
 {
     let i = s.i;
-    let lit = spread(colour, i, left[i], right[i]);
-    Spot {
+    let grayed = spread(colour, i, left[i], right[i]);
+    ScanAt {
         i: around(i + 1, x.m as usize),
         k: x.m as usize,
-        dark: s.dark + 1,
+        blackened: s.blackened + 1,
         d: s.d + 4,
-        stirs: s.stirs + lit.more - 1,
-        lit: lit.node,
+        stops: s.stops + grayed.more - 1,
+        grayed: grayed.node,
     }
 }
 
 // The looks that find nothing, and then the visit of a gray node where one is there.
-fn turn(left: &[u16], right: &[u16], colour: &mut [u8], x: Record, cap: usize, s: Spot) -> Spot
-    requires { ⌜ (Known (now left) (now right) (now colour) x cap s) × (Room x cap) ⌝ }
-    ensures { λ r. ⌜ Goes (now (left .entry)) (now (right .entry)) (now (colour .entry)) x cap s (now (colour .exit)) r ⌝ }
+fn look_and_visit(
+    left: &[u16],
+    right: &[u16],
+    colour: &mut [u8],
+    x: Record,
+    cap: usize,
+    s: ScanAt,
+) -> ScanAt
+    requires { ⌜ Valid (now left) (now right) (now colour) x cap s ⌝ }
+    requires { ⌜ Room x cap ⌝ }
+    ensures { λ r. ⌜ ScanLeads (was left) (was right) (was colour) x cap s (is colour) r ⌝ }
 {
-    let h = hop(left, right, colour, x, cap, s);
-    if !ripe(left, right, colour, x, cap, h) {
+    let h = look_on(left, right, colour, x, cap, s);
+    if !can_visit(left, right, colour, x, cap, h) {
         return h;
     }
     visit(left, right, colour, x, cap, h)
 }
 
-// Turns for as long as they lead on.
+// Looks and visits for as long as they lead on.
 fn marking(
     left: &[u16],
     right: &[u16],
     colour: &mut [u8],
     x: Record,
     cap: usize,
-    from: Spot,
-) -> Spot
-    requires { ⌜ (Known (now left) (now right) (now colour) x cap from) × (Room x cap) ⌝ }
-    ensures { λ r. ⌜ Goes (now (left .entry)) (now (right .entry)) (now (colour .entry)) x cap from (now (colour .exit)) r ⌝ }
+    from: ScanAt,
+) -> ScanAt
+    requires { ⌜ Valid (now left) (now right) (now colour) x cap from ⌝ }
+    requires { ⌜ Room x cap ⌝ }
+    ensures { λ r. ⌜ ScanLeads (was left) (was right) (was colour) x cap from (is colour) r ⌝ }
 {
     let mut s = from;
     while s.d < cap {
-        let t = turn(left, right, colour, x, cap, s);
+        let t = look_and_visit(left, right, colour, x, cap, s);
         if t.d == s.d {
             return t;
         }
@@ -240,13 +266,14 @@ fn marking(
 }
 
 // How many colours stop a look: counted where many steps are to be made, else the most that can be.
-fn stirring(colour: &[u8], cap: usize) -> usize
-    ensures { λ r. ⌜ (stirs (now (colour .entry)) 0 (length (now (colour .entry))) ≤ r) × (r ≤ length (now (colour .entry))) ⌝ }
+fn most_stops(colour: &[u8], cap: usize) -> usize
+    ensures { λ r. ⌜ (stops (was colour) 0 (length (was colour)) ≤ r)
+        × (r ≤ length (was colour)) ⌝ }
 {
     if cap < colour.len() {
         return colour.len();
     }
-    skim::stirring(colour)
+    skim::all_stops(colour)
 }
 
 // Scan i, k: at most cap steps, none of them the last look.
@@ -259,16 +286,19 @@ pub fn scans(
     k: u16,
     cap: usize,
 ) -> Ahead
-    requires { ⌜ (Passes (state (now left) (now right) (now colour) x)) × ((Room x cap) × (x .phase ≡ Scan i k)) ⌝ }
-    ensures { λ r. ⌜ (r .d ≤ cap) × Leads (state (now (left .entry)) (now (right .entry)) (now (colour .entry)) x) (r .d) (state (now (left .entry)) (now (right .entry)) (now (colour .exit)) (r .rec)) ⌝ }
+    requires { ⌜ Passes (state (now left) (now right) (now colour) x) ⌝ }
+    requires { ⌜ Room x cap ⌝ }
+    requires { ⌜ x .phase ≡ Scan i k ⌝ }
+    ensures { λ r. ⌜ (r .d ≤ cap) × Leads (given left right colour x) (r .d)
+        (state (was left) (was right) (is colour) (r .rec)) ⌝ }
 {
-    let from = Spot {
+    let from = ScanAt {
         i: i as usize,
         k: k as usize,
-        dark: x.blackened as usize,
+        blackened: x.blackened as usize,
         d: 0,
-        stirs: stirring(colour, cap),
-        lit: 0,
+        stops: most_stops(colour, cap),
+        grayed: 0,
     };
     let s = marking(left, right, colour, x, cap, from);
     Ahead {

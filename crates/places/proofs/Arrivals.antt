@@ -1,17 +1,25 @@
 -- What follows a walk: v is what the walk answered, w what it should.
-use Prim.Native.Nat.{ℕ}
-use mathlib.Core.Path.{_≡_, refl}
-use mathlib.Core.List.{List}
-use Rattle.base.proofs.Tests.{pick-yes, pick-no, eq-yes, eq-no}
-use Rattle.rules.specs.Table.{State, Outcome, state, refuse, did, shadeIn, shade}
-use Rattle.rules.specs.Places.{walk, arrive}
-use Rattle.rules.specs.Editor.{depart}
+use Prim.Native.Nat.{ℕ, _<_}
+use mathlib.Core.Bool.{Bool, true, false}
+use mathlib.Core.Path.{_≡_, refl, sym, ap, subst, _∙_}
+use mathlib.Core.List.{List, [], _∷_}
+use lib.Dec.{eqb}
+use Rattle.base.specs.Choice.{pick, first}
+use Rattle.base.proofs.Tests.{split}
+use Rattle.rules.specs.Table.{State, Outcome, state, refuse, NIL, did, shadeIn, shade}
+use Rattle.rules.specs.Check.{checkOf}
+use Rattle.rules.specs.Places.{placeCode, walkFrom, walk, arrive}
+use Rattle.rules.specs.Editor.{sideCode, owedCode, depart}
 use Rattle.rules.specs.declared.Place.{Place}
 use Rattle.rules.specs.declared.Record.{Record}
 use Rattle.rules.specs.declared.Answer.{Answer}
 use Rattle.rules.specs.declared.Walk.{Walk}
 use Rattle.rules.specs.declared.Walk.the-variants.{At, Damaged}
+use Rattle.rules.proofs.Walks.{Below, below}
+use Rattle.places.specs.declared.Source.{Source}
+use Rattle.places.specs.declared.Source.the-variants.{Found, Missing}
 use Rattle.places.specs.Stood.{stood}
+use Rattle.places.specs.Sources.{editCode, sourceOf}
 
 module _ (s : State) (w v : Walk) (go : ℕ → Outcome) (n : ℕ) where
   pub arrives : (z : Outcome) → v ≡ w → v ≡ At n → z ≡ go n → z ≡ arrive s w go
@@ -22,23 +30,62 @@ module _ (s : State) (w v : Walk) (go : ℕ → Outcome) (n : ℕ) where
   unfolding arrive
   stops k e q h = rw (← e, h, q)
 
-module _ (s : State) (p : Place) (v : Walk) (go : ℕ → Outcome) (n : ℕ) where
-  pub departs : (z : Outcome) → v ≡ walk s p → v ≡ At n → (n ≡ 0 → ⊥) → z ≡ go n → z ≡ depart s p go
-  unfolding depart
-  departs z e q h k = arrives s _ v _ n z e q (pick-no _ _ _ _ (eq-no _ _ h) k)
+-- and a walk to a source: v is what it answered
+module _ (s : State) (p : Place) (v : Source) (go : ℕ → Outcome) where
+  abbrev leave : Source → Outcome
+  leave (Found n) = go n
+  leave (Missing code n) = refuse s code n
 
-  pub absent : v ≡ walk s p → v ≡ At n → n ≡ 0 → refuse s 8 0 ≡ depart s p go
-  unfolding depart
-  absent e q h = arrives s _ v _ n _ e q (pick-yes _ _ _ _ (eq-yes _ _ h) refl)
+  either : (b : Bool) (n : ℕ) → leave (pick b (Missing 8 0) (Found n))
+      ≡ pick b (refuse s 8 0) (go n)
+  unfolding pick
+  either true n = refl
+  either false n = refl
 
-  pub halts : (k : ℕ) → v ≡ walk s p → v ≡ Damaged n → k ≡ stood v → refuse s 7 k ≡ depart s p go
+  sources : (w : Walk) → leave (sourceOf w)
+      ≡ arrive s w (λ n. pick (eqb n NIL) (refuse s 8 0) (go n))
+  unfolding sourceOf arrive
+  sources (At n) = either (eqb n NIL) n
+  sources (Damaged n) = refl
+
+  pub departs : (n : ℕ) (z : Outcome) → v ≡ sourceOf (walk s p) → v ≡ Found n → z ≡ go n
+      → z ≡ depart s p go
   unfolding depart
-  halts k e q h = stops s _ v _ n k e q h
+  departs n z e q h = h ∙ ap leave (sym q ∙ e) ∙ sources (walk s p)
+
+  pub absent : (code n : ℕ) → v ≡ sourceOf (walk s p) → v ≡ Missing code n
+      → refuse s code n ≡ depart s p go
+  unfolding depart
+  absent code n e q = ap leave (sym q ∙ e) ∙ sources (walk s p)
+
+-- a source that is found lies in the table
+abbrev Lies : ℕ → Source → Type 0
+Lies m (Found n) = n < m
+Lies m (Missing code n) = Unit {0}
+
+lies : (m : ℕ) (w : Walk) → Below m w → Lies m (sourceOf w)
+unfolding sourceOf
+lies m (At n) h = split (Lies m) _ _ _ (λ q. tt) (λ q. h)
+lies m (Damaged n) h = tt
+
+pub found-below : (b : ℕ) (edges : ℕ → ℕ → ℕ) (m k w n t : ℕ) (v : Source)
+    → v ≡ sourceOf (walkFrom b edges m k w n) → v ≡ Found t → n < m → t < m
+found-below b edges m k w n t v e q h =
+    subst (Lies m) (sym e ∙ q) (lies m _ (below b edges m k w n h))
+
+-- the codes of a step without a target
+pub no-target : (ll rl cl : ℕ) (x : Record) (p : Place) (side : ℕ) → editCode ll rl cl x p side 0
+    ≡ first (checkOf (ll ∷ rl ∷ []) cl x ∷ sideCode 2 side ∷ placeCode 2 (x .r) p ∷ owedCode
+    (x .owed) ∷ [])
+unfolding editCode first pick
+no-target ll rl cl x p side = refl
 
 -- a table that is known to be u's, with an answer and a record
 module _ (a : Answer) (x : Record) (l r c : List ℕ) (u : State) where
-  pub leaves : (y z : Record) → state l r c x ≡ u → y ≡ z → _≡_ {A = Outcome} (record { answer = a; state = state l r c y }) (did a u z)
+  pub leaves : (y z : Record) → state l r c x ≡ u → y ≡ z
+      → _≡_ {A = Outcome} (record { answer = a; state = state l r c y }) (did a u z)
   leaves y z e q = rw (← e, q)
 
-  pub leaves-shaded : (y : Record) (d : List ℕ) (n : ℕ) → state l r c x ≡ u → d ≡ shadeIn c n → _≡_ {A = Outcome} (record { answer = a; state = state l r d y }) (did a (shade u n) y)
+  pub leaves-shaded : (y : Record) (d : List ℕ) (n : ℕ) → state l r c x ≡ u → d ≡ shadeIn c n
+      → _≡_ {A = Outcome} (record { answer = a; state = state l r d y }) (did a (shade u n) y)
   leaves-shaded y d n e q = rw (← e, q)

@@ -1,1 +1,2 @@
 pub mod Stood
+pub mod Sources

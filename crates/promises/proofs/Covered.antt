@@ -1,60 +1,76 @@
--- Every public call but Fresh is a run of steps: what it leaves is what that run leaves. So a run of calls is a run of steps, and what holds of all
--- runs of steps holds of it. Fresh starts a run.
-use mathlib.Core.Path.{_≡_, refl, ap}
-use mathlib.Core.List.{List, [], _∷_, _++_}
+-- What a public call leaves is what specs/Calls.antt says of it: by the call's contract.
+-- `Learnt κs a r s` is what a caller learns of a call: κs the lifetimes, a the arguments, r what it
+-- hands back, s the lent slices as it leaves them.
+use mathlib.Core.Path.{_≡_, ap}
 use denote.Ref.{now}
-use Rattle.rules.specs.Table.{State, Outcome, state}
-use Rattle.rules.specs.Fresh.{fresh}
-use Rattle.rules.specs.Steps.{step, run, taking, linking, shading, collecting, looking}
-use Rattle.rules.specs.declared.Step.{Step}
-use Rattle.fresh.proofs.fresh.Reads as fresh-call
-use Rattle.editor.proofs.look.Reads as look-call
-use Rattle.editor.proofs.link.Reads as link-call
-use Rattle.editor.proofs.shade.Reads as shade-call
-use Rattle.take.proofs.take.Reads as take-call
-use Rattle.collector.proofs.collect.Reads as collect-call
-use Rattle.calls.proofs.step.Reads as step-call
+use Rattle.rules.specs.Table.{Outcome}
+use Rattle.rules.specs.Schedules.{Followed}
+use Rattle.rules.specs.declared.Record.{Record}
+use Rattle.fresh.proofs.fresh.Reads as fresh
+use Rattle.editor.proofs.look.Reads as look
+use Rattle.editor.proofs.link.Reads as link
+use Rattle.editor.proofs.shade.Reads as shade
+use Rattle.take.proofs.take.Reads as take
+use Rattle.collector.proofs.collect.Reads as collect
+use Rattle.calls.proofs.step.Reads as step
+use Rattle.promises.specs.Runs.{lent, lend}
+use Rattle.promises.specs.Calls.{Fresh, Look, Link, Shade, Take, Collect, Any}
+use Rattle.promises.specs.Calls.{left-by, rattle}
 
--- runs follow one another
-pub run-joins : (ca cb : List Step) (s : State) → run (ca ++ cb) s ≡ run cb (run ca s)
-unfolding run
-run-joins [] cb s = refl
-run-joins (c ∷ ca) cb s = run-joins ca cb (step c s .state)
+-- the slices and the record of an outcome
+pub lent-by : {o p : Outcome} → o ≡ p → lend (λ x. x) (o .state) ≡ lend (λ x. x) (p .state)
+lent-by e = ap (λ (o : Outcome). lend (λ x. x) (o .state)) e
 
--- the state of an outcome
-left-by : {o p : Outcome} → o ≡ p → o .state ≡ p .state
-left-by e = ap (λ (o : Outcome). o .state) e
+-- and of a run
+pub lent-by-run : {o p : Followed} → o ≡ p → lend (λ x. x) (o .state) ≡ lend (λ x. x) (p .state)
+lent-by-run e = ap (λ (o : Followed). lend (λ x. x) (o .state)) e
 
-pub fresh-starts : (κs : _) (a : _) (r : _) (s : _) → fresh-call.Learnt κs a r s
-    → state (now (s .0)) (now (s .1 .0)) (now (s .1 .1 .0)) (r .rec) ≡ fresh (a .1 .1 .1 .0) (a .1 .1 .1 .1 .0) (now (a .0)) (now (a .1 .0)) (now (a .1 .1 .0)) .state
-fresh-starts κs a r s = left-by
+-- Fresh is given no record: it leaves the same whichever was kept
+pub fresh-leaves : (κs : _) (a : _) (r : _) (s : _) (x : Record) → fresh.Learnt κs a r s
+    → lent (now (s .0)) (now (s .1 .0)) (now (s .1 .1 .0)) (r .rec)
+    ≡ rattle .leaves (Fresh (a .1 .1 .1 .0) (a .1 .1 .1 .1 .0))
+    (lent (now (a .0)) (now (a .1 .0)) (now (a .1 .1 .0)) x)
+unfolding left-by
+fresh-leaves κs a r s x = lent-by
 
-pub look-run : (κs : _) (a : _) (r : _) (s : _) → look-call.Learnt κs a r s
-    → state (now (a .0)) (now (a .1 .0)) (now (a .1 .1 .0)) (r .rec) ≡ run (looking (a .1 .1 .1 .1 .0) ∷ []) (state (now (a .0)) (now (a .1 .0)) (now (a .1 .1 .0)) (a .1 .1 .1 .0))
-unfolding run
-look-run κs a r s = left-by
+pub look-leaves : (κs : _) (a : _) (r : _) (s : _) → look.Learnt κs a r s
+    → lent (now (a .0)) (now (a .1 .0)) (now (a .1 .1 .0)) (r .rec)
+    ≡ rattle .leaves (Look (a .1 .1 .1 .1 .0))
+    (lent (now (a .0)) (now (a .1 .0)) (now (a .1 .1 .0)) (a .1 .1 .1 .0))
+unfolding left-by
+look-leaves κs a r s = lent-by
 
-pub link-run : (κs : _) (a : _) (r : _) (s : _) → link-call.Learnt κs a r s
-    → state (now (s .0)) (now (s .1 .0)) (now (a .1 .1 .0)) (r .rec) ≡ run (linking (a .1 .1 .1 .1 .0) (a .1 .1 .1 .1 .1 .0) (a .1 .1 .1 .1 .1 .1 .0) ∷ []) (state (now (a .0)) (now (a .1 .0)) (now (a .1 .1 .0)) (a .1 .1 .1 .0))
-unfolding run
-link-run κs a r s = left-by
+pub link-leaves : (κs : _) (a : _) (r : _) (s : _) → link.Learnt κs a r s
+    → lent (now (s .0)) (now (s .1 .0)) (now (a .1 .1 .0)) (r .rec)
+    ≡ rattle .leaves (Link (a .1 .1 .1 .1 .0) (a .1 .1 .1 .1 .1 .0) (a .1 .1 .1 .1 .1 .1 .0))
+    (lent (now (a .0)) (now (a .1 .0)) (now (a .1 .1 .0)) (a .1 .1 .1 .0))
+unfolding left-by
+link-leaves κs a r s = lent-by
 
-pub shade-run : (κs : _) (a : _) (r : _) (s : _) → shade-call.Learnt κs a r s
-    → state (now (a .0)) (now (a .1 .0)) (now (s .1 .1 .0)) (r .rec) ≡ run (shading ∷ []) (state (now (a .0)) (now (a .1 .0)) (now (a .1 .1 .0)) (a .1 .1 .1 .0))
-unfolding run
-shade-run κs a r s = left-by
+pub shade-leaves : (κs : _) (a : _) (r : _) (s : _) → shade.Learnt κs a r s
+    → lent (now (a .0)) (now (a .1 .0)) (now (s .1 .1 .0)) (r .rec)
+    ≡ rattle .leaves Shade
+    (lent (now (a .0)) (now (a .1 .0)) (now (a .1 .1 .0)) (a .1 .1 .1 .0))
+unfolding left-by
+shade-leaves κs a r s = lent-by
 
-pub take-run : (κs : _) (a : _) (r : _) (s : _) → take-call.Learnt κs a r s
-    → state (now (s .0)) (now (s .1 .0)) (now (s .1 .1 .0)) (r .rec) ≡ run (taking (a .1 .1 .1 .1 .0) (a .1 .1 .1 .1 .1 .0) ∷ []) (state (now (a .0)) (now (a .1 .0)) (now (a .1 .1 .0)) (a .1 .1 .1 .0))
-unfolding run
-take-run κs a r s = left-by
+pub take-leaves : (κs : _) (a : _) (r : _) (s : _) → take.Learnt κs a r s
+    → lent (now (s .0)) (now (s .1 .0)) (now (s .1 .1 .0)) (r .rec)
+    ≡ rattle .leaves (Take (a .1 .1 .1 .1 .0) (a .1 .1 .1 .1 .1 .0))
+    (lent (now (a .0)) (now (a .1 .0)) (now (a .1 .1 .0)) (a .1 .1 .1 .0))
+unfolding left-by
+take-leaves κs a r s = lent-by
 
-pub collect-run : (κs : _) (a : _) (r : _) (s : _) → collect-call.Learnt κs a r s
-    → state (now (s .0)) (now (s .1 .0)) (now (s .1 .1 .0)) (r .rec) ≡ run (collecting ∷ []) (state (now (a .0)) (now (a .1 .0)) (now (a .1 .1 .0)) (a .1 .1 .1 .0))
-unfolding run
-collect-run κs a r s = left-by
+pub collect-leaves : (κs : _) (a : _) (r : _) (s : _) → collect.Learnt κs a r s
+    → lent (now (s .0)) (now (s .1 .0)) (now (s .1 .1 .0)) (r .rec)
+    ≡ rattle .leaves Collect
+    (lent (now (a .0)) (now (a .1 .0)) (now (a .1 .1 .0)) (a .1 .1 .1 .0))
+unfolding left-by
+collect-leaves κs a r s = lent-by
 
-pub step-run : (κs : _) (a : _) (r : _) (s : _) → step-call.Learnt κs a r s
-    → state (now (s .0)) (now (s .1 .0)) (now (s .1 .1 .0)) (r .rec) ≡ run (a .1 .1 .1 .1 .0 ∷ []) (state (now (a .0)) (now (a .1 .0)) (now (a .1 .1 .0)) (a .1 .1 .1 .0))
-unfolding run
-step-run κs a r s = left-by
+pub step-leaves : (κs : _) (a : _) (r : _) (s : _) → step.Learnt κs a r s
+    → lent (now (s .0)) (now (s .1 .0)) (now (s .1 .1 .0)) (r .rec)
+    ≡ rattle .leaves (Any (a .1 .1 .1 .1 .0))
+    (lent (now (a .0)) (now (a .1 .0)) (now (a .1 .1 .0)) (a .1 .1 .1 .0))
+unfolding left-by
+step-leaves κs a r s = lent-by

@@ -1,5 +1,7 @@
--- A public call's promise determines its answer, the record and the three slices: any two outcomes that its contract admits are equal.
--- `Learnt κs a r s` is what a caller learns of a call: κs the lifetimes, a the arguments, r what it hands back, s the lent slices as it leaves them.
+-- [Calls 3] What a public call does is determined: any two outcomes that its contract admits are
+-- equal in the answer, the record and the slices. `Learnt κs a r s` is what a caller learns of a
+-- call: κs the lifetimes, a the arguments, r what it hands back, s the lent slices as it leaves
+-- them.
 use mathlib.Core.Path.{_≡_, sym, _∙_}
 use denote.Ref.{now}
 use Rattle.rules.specs.Table.{outcome}
@@ -15,33 +17,47 @@ use Rattle.calls.proofs.step.Reads as step
 pub determined : {A : Type 0} {a b c : A} → a ≡ c → b ≡ c → a ≡ b
 determined p q = p ∙ sym q
 
-pub fresh-determined : (κs : _) (a : _) (r r′ : _) (s s′ : _) → fresh.Learnt κs a r s → fresh.Learnt κs a r′ s′
-    → outcome r (now (s .0)) (now (s .1 .0)) (now (s .1 .1 .0)) ≡ outcome r′ (now (s′ .0)) (now (s′ .1 .0)) (now (s′ .1 .1 .0))
+pub fresh-determined : (κs : _) (a : _) (r r′ : _) (s s′ : _) → fresh.Learnt κs a r s
+    → fresh.Learnt κs a r′ s′
+    → outcome r (now (s .0)) (now (s .1 .0)) (now (s .1 .1 .0))
+    ≡ outcome r′ (now (s′ .0)) (now (s′ .1 .0)) (now (s′ .1 .1 .0))
 fresh-determined κs a r r′ s s′ = determined
 
 -- Look lends no slice to be changed
-pub look-determined : (κs : _) (a : _) (r r′ : _) (s s′ : _) → look.Learnt κs a r s → look.Learnt κs a r′ s′
-    → outcome r (now (a .0)) (now (a .1 .0)) (now (a .1 .1 .0)) ≡ outcome r′ (now (a .0)) (now (a .1 .0)) (now (a .1 .1 .0))
+pub look-determined : (κs : _) (a : _) (r r′ : _) (s s′ : _) → look.Learnt κs a r s
+    → look.Learnt κs a r′ s′
+    → outcome r (now (a .0)) (now (a .1 .0)) (now (a .1 .1 .0))
+    ≡ outcome r′ (now (a .0)) (now (a .1 .0)) (now (a .1 .1 .0))
 look-determined κs a r r′ s s′ = determined
 
 -- nor Link the colours
-pub link-determined : (κs : _) (a : _) (r r′ : _) (s s′ : _) → link.Learnt κs a r s → link.Learnt κs a r′ s′
-    → outcome r (now (s .0)) (now (s .1 .0)) (now (a .1 .1 .0)) ≡ outcome r′ (now (s′ .0)) (now (s′ .1 .0)) (now (a .1 .1 .0))
+pub link-determined : (κs : _) (a : _) (r r′ : _) (s s′ : _) → link.Learnt κs a r s
+    → link.Learnt κs a r′ s′
+    → outcome r (now (s .0)) (now (s .1 .0)) (now (a .1 .1 .0))
+    ≡ outcome r′ (now (s′ .0)) (now (s′ .1 .0)) (now (a .1 .1 .0))
 link-determined κs a r r′ s s′ = determined
 
 -- nor Shade the edges
-pub shade-determined : (κs : _) (a : _) (r r′ : _) (s s′ : _) → shade.Learnt κs a r s → shade.Learnt κs a r′ s′
-    → outcome r (now (a .0)) (now (a .1 .0)) (now (s .1 .1 .0)) ≡ outcome r′ (now (a .0)) (now (a .1 .0)) (now (s′ .1 .1 .0))
+pub shade-determined : (κs : _) (a : _) (r r′ : _) (s s′ : _) → shade.Learnt κs a r s
+    → shade.Learnt κs a r′ s′
+    → outcome r (now (a .0)) (now (a .1 .0)) (now (s .1 .1 .0))
+    ≡ outcome r′ (now (a .0)) (now (a .1 .0)) (now (s′ .1 .1 .0))
 shade-determined κs a r r′ s s′ = determined
 
-pub take-determined : (κs : _) (a : _) (r r′ : _) (s s′ : _) → take.Learnt κs a r s → take.Learnt κs a r′ s′
-    → outcome r (now (s .0)) (now (s .1 .0)) (now (s .1 .1 .0)) ≡ outcome r′ (now (s′ .0)) (now (s′ .1 .0)) (now (s′ .1 .1 .0))
+pub take-determined : (κs : _) (a : _) (r r′ : _) (s s′ : _) → take.Learnt κs a r s
+    → take.Learnt κs a r′ s′
+    → outcome r (now (s .0)) (now (s .1 .0)) (now (s .1 .1 .0))
+    ≡ outcome r′ (now (s′ .0)) (now (s′ .1 .0)) (now (s′ .1 .1 .0))
 take-determined κs a r r′ s s′ = determined
 
-pub collect-determined : (κs : _) (a : _) (r r′ : _) (s s′ : _) → collect.Learnt κs a r s → collect.Learnt κs a r′ s′
-    → outcome r (now (s .0)) (now (s .1 .0)) (now (s .1 .1 .0)) ≡ outcome r′ (now (s′ .0)) (now (s′ .1 .0)) (now (s′ .1 .1 .0))
+pub collect-determined : (κs : _) (a : _) (r r′ : _) (s s′ : _) → collect.Learnt κs a r s
+    → collect.Learnt κs a r′ s′
+    → outcome r (now (s .0)) (now (s .1 .0)) (now (s .1 .1 .0))
+    ≡ outcome r′ (now (s′ .0)) (now (s′ .1 .0)) (now (s′ .1 .1 .0))
 collect-determined κs a r r′ s s′ = determined
 
-pub step-determined : (κs : _) (a : _) (r r′ : _) (s s′ : _) → step.Learnt κs a r s → step.Learnt κs a r′ s′
-    → outcome r (now (s .0)) (now (s .1 .0)) (now (s .1 .1 .0)) ≡ outcome r′ (now (s′ .0)) (now (s′ .1 .0)) (now (s′ .1 .1 .0))
+pub step-determined : (κs : _) (a : _) (r r′ : _) (s s′ : _) → step.Learnt κs a r s
+    → step.Learnt κs a r′ s′
+    → outcome r (now (s .0)) (now (s .1 .0)) (now (s .1 .1 .0))
+    ≡ outcome r′ (now (s′ .0)) (now (s′ .1 .0)) (now (s′ .1 .1 .0))
 step-determined κs a r r′ s s′ = determined

@@ -1,24 +1,30 @@
--- The figures that document 01 marks P, as one table that the checker computes: what is computed beside what is told.
+-- The figures of docs/RULES.md but the last, as one table that the checker computes: what is
+-- computed beside what is told.
 use Prim.Native.Nat.{ℕ, _+_}
 use mathlib.Core.Path.{_≡_, refl}
 use mathlib.Core.List.{List, [], _∷_, map, _++_}
 use lib.Dec.{eqb}
 use lib.ListN.{getD}
 use Rattle.base.specs.Choice.{pick, every, first}
-use Rattle.rules.specs.Table.{State, Outcome, unless, edgeOf, withEdge, shadeIn, badEdge}
+use Rattle.rules.specs.Table.{State, Outcome, unless, edgeOf, withEdge, cleared, shadeIn, badEdge}
 use Rattle.rules.specs.Records.{oneMore, afterAppend}
-use Rattle.rules.specs.Check.{sizeOk, phaseOk, owedOk, lastOk, bound, countsOk, recordOk, checkOf}
+use Rattle.rules.specs.Check.{sizeOk, phaseOk, owedOk, lastOk, bound, cycleOk, toldOk, countsOk}
+use Rattle.rules.specs.Check.{recordOk, checkOf}
 use Rattle.rules.specs.Fresh.{tabulate, nextFree, freshLeft, freshLast, freshState, fresh}
-use Rattle.rules.specs.Places.{turnsOk, placeCode, walkFrom, arrive}
-use Rattle.rules.specs.Editor.{sideCode, owedCode, look, depart, linkTo, link, pay, shadeOwed, badFree, relink, takeNext, takeFirst, take}
-use Rattle.rules.specs.Collector.{shadeStep, afterRoots, scanStep, edgeStep, blackStep, append, appendWhite, appendStep, phaseStep, collect}
+use Rattle.rules.specs.Places.{sidesOk, turnsOk, placeCode, walkFrom, arrive}
+use Rattle.rules.specs.Editor.{sideCode, owedCode, look, depart, linkTo, link, pay, shadeOwed}
+use Rattle.rules.specs.Editor.{badFree, relink, takeNext, takeFirst, take}
+use Rattle.rules.specs.Collector.{shadeStep, afterRoots, scanStep, edgeStep, blackStep, append}
+use Rattle.rules.specs.Collector.{appendWhite, appendStep, phaseStep, collect}
 use Rattle.rules.specs.Records.{position}
-use Rattle.rules.specs.Steps.{step, run, taking, linking, shading, collecting, looking, codeOf, nodeOf}
+use Rattle.rules.specs.Steps.{step, run, taking, linking, shading, collecting, looking, codeOf}
+use Rattle.rules.specs.Steps.{nodeOf}
 use Rattle.rules.specs.Schedules.{collects}
 use Rattle.rules.specs.declared.Place.{Place}
 use Rattle.rules.specs.declared.Step.{Step}
 use Rattle.rules.specs.declared.Answer.{Answer}
-use Rattle.rules.specs.declared.Answer.the-variants.{Started, Named, Linked, Taken, Shaded, Looked, Blackened, Whitened, Appended, Refused}
+use Rattle.rules.specs.declared.Answer.the-variants.{Started, Named, Linked, Taken, Shaded, Looked}
+use Rattle.rules.specs.declared.Answer.the-variants.{Blackened, Whitened, Appended, Refused}
 
 -- code and node of an answer
 abbrev shown : Answer → List ℕ
@@ -35,7 +41,8 @@ at count word = record { slot = 0; count = count; word = word }
 
 -- Fresh on slices of M entries that hold something else
 abbrev starts : ℕ → ℕ → Outcome
-starts m r = fresh m r (tabulate (λ n. n + 7) m) (tabulate (λ n. n + 7) m) (tabulate (λ n. n + 7) m)
+starts m r =
+    fresh m r (tabulate (λ n. n + 7) m ∷ tabulate (λ n. n + 7) m ∷ []) (tabulate (λ n. n + 7) m)
 
 abbrev pub three : State
 three = starts 3 1 .state
@@ -54,7 +61,9 @@ edgesTo n (e ∷ es) = pick (eqb e n) 1 0 + edgesTo n es
 
 -- the worked listing's five lines before the collecting
 abbrev edits : List Step
-edits = taking (at 0 0) 0 ∷ taking (at 0 0) 1 ∷ taking (at 0 0) 0 ∷ linking (at 0 0) 0 (at 1 1) ∷ shading ∷ []
+edits =
+    taking (at 0 0) 0 ∷ taking (at 0 0) 1 ∷ taking (at 0 0) 0 ∷ linking (at 0 0) 0
+    (at 1 1) ∷ shading ∷ []
 
 -- the listing's state after them and so many collector steps
 abbrev worked : ℕ → State
@@ -83,37 +92,51 @@ figure c t = record { computed = c; told = t }
 
 abbrev pub table : List Figure
 table =
-    -- "M = 3, R = 1: list empty, last 1, Take refused 9; a quiet cycle takes 21 steps, B is 27."
+    -- [Figures 1] left edges, last, Take; the counts after 20, 21 and 42 steps; B
     figure
-    (three .left ∷ (three .rec .last ∷ []) ∷ answers (taking (at 0 0) 0 ∷ []) three ++ counts (run (collects 20) three) ∷ counts (run (collects 21) three) ∷ counts (run (collects 42) three) ∷ (bound 3 1 ∷ []) ∷ [])
-    ((0 ∷ 0 ∷ 0 ∷ []) ∷ (1 ∷ []) ∷ (9 ∷ 0 ∷ []) ∷ (0 ∷ 20 ∷ 0 ∷ 3 ∷ []) ∷ (1 ∷ 0 ∷ 21 ∷ 3 ∷ []) ∷ (2 ∷ 0 ∷ 21 ∷ 3 ∷ []) ∷ (27 ∷ []) ∷ []) ∷
-    -- "M = 5, R = 1: fresh left edges 0 3 0 4 0, last 4, B is 53; the quiet first cycle takes 33 steps, nodes in use 5."
+    (getD (three .edges) 0 [] ∷ (three .rec .last ∷ []) ∷ answers (taking (at 0 0) 0 ∷ []) three ++
+    counts (run (collects 20) three) ∷ counts (run (collects 21) three) ∷ counts
+    (run (collects 42) three) ∷ (bound 2 3 1 ∷ []) ∷ [])
+    ((0 ∷ 0 ∷ 0 ∷ []) ∷ (1 ∷ []) ∷ (9 ∷ 0 ∷ []) ∷ (0 ∷ 20 ∷ 0 ∷ 3 ∷ []) ∷ (1 ∷ 0 ∷ 21 ∷ 3 ∷ []) ∷
+    (2 ∷ 0 ∷ 21 ∷ 3 ∷ []) ∷ (27 ∷ []) ∷ []) ∷
+    -- [Figures 2] left edges, last, B; the counts after 32 and 33 steps
     figure
-    (five .left ∷ (five .rec .last ∷ []) ∷ (bound 5 1 ∷ []) ∷ counts (run (collects 32) five) ∷ counts (run (collects 33) five) ∷ [])
-    ((0 ∷ 3 ∷ 0 ∷ 4 ∷ 0 ∷ []) ∷ (4 ∷ []) ∷ (53 ∷ []) ∷ (0 ∷ 32 ∷ 0 ∷ 5 ∷ []) ∷ (1 ∷ 0 ∷ 33 ∷ 5 ∷ []) ∷ []) ∷
-    -- "the first eight answers above": the first line, the five edits, collect (code, and the position's i before its last step), look
+    (getD (five .edges) 0 [] ∷ (five .rec .last ∷ []) ∷ (bound 2 5 1 ∷ []) ∷ counts
+    (run (collects 32) five) ∷ counts (run (collects 33) five) ∷ [])
+    ((0 ∷ 3 ∷ 0 ∷ 4 ∷ 0 ∷ []) ∷ (4 ∷ []) ∷ (53 ∷ []) ∷ (0 ∷ 32 ∷ 0 ∷ 5 ∷ []) ∷
+    (1 ∷ 0 ∷ 33 ∷ 5 ∷ []) ∷ []) ∷
+    -- [Figures 3] the first line, the five edits, collect (its code and node) and look
     figure
-    (shown (starts 5 1 .answer) ∷ answers edits five ++ (codeOf (step collecting (worked 61) .answer) ∷ position (worked 61 .rec .phase) ∷ []) ∷ answers (looking (at 1 0) ∷ []) (worked 62))
-    ((0 ∷ 4 ∷ []) ∷ (0 ∷ 3 ∷ []) ∷ (0 ∷ 4 ∷ []) ∷ (9 ∷ 0 ∷ []) ∷ (0 ∷ 4 ∷ []) ∷ (0 ∷ 4 ∷ []) ∷ (0 ∷ 3 ∷ []) ∷ (0 ∷ 4 ∷ []) ∷ []) ∷
-    -- "Before the collecting, node 3 is garbage but gray": it is no root, no edge leads to it, and its colour is 1
+    (shown (starts 5 1 .answer) ∷ answers edits five ++
+    (codeOf (step collecting (worked 61) .answer) ∷ position (worked 61 .rec .phase) ∷ []) ∷
+    answers (looking (at 1 0) ∷ []) (worked 62))
+    ((0 ∷ 4 ∷ []) ∷ (0 ∷ 3 ∷ []) ∷ (0 ∷ 4 ∷ []) ∷ (9 ∷ 0 ∷ []) ∷ (0 ∷ 4 ∷ []) ∷ (0 ∷ 4 ∷ []) ∷
+    (0 ∷ 3 ∷ []) ∷ (0 ∷ 4 ∷ []) ∷ []) ∷
+    -- [Figures 4] node 3 before the collecting: it is no root, no edge leads to it, and it is gray
     figure
-    ((edgesTo 3 (worked 0 .left) ∷ edgesTo 3 (worked 0 .right) ∷ getD (worked 0 .colour) 3 0 ∷ []) ∷ [])
+    ((edgesTo 3 (getD (worked 0 .edges) 0 []) ∷ edgesTo 3 (getD (worked 0 .edges) 1 []) ∷ getD
+    (worked 0 .colour) 3 0 ∷ []) ∷ [])
     ((0 ∷ 0 ∷ 1 ∷ []) ∷ []) ∷
-    -- "Cycle one takes 33 steps and whitens it; cycle two takes 30 and appends it on its 29th, the 62nd in all."
+    -- [Figures 4] the counts and node 3's colour after the first cycle; the counts before step 62
+    -- and the node that it appends; the counts after the second cycle
     figure
-    (counts (worked 33) ∷ (getD (worked 33 .colour) 3 0 ∷ []) ∷ counts (worked 61) ∷ (appended (step collecting (worked 61) .answer) ∷ []) ∷ counts (worked 63) ∷ [])
-    ((1 ∷ 0 ∷ 33 ∷ 5 ∷ []) ∷ (0 ∷ []) ∷ (1 ∷ 28 ∷ 33 ∷ 4 ∷ []) ∷ (3 ∷ []) ∷ (2 ∷ 0 ∷ 30 ∷ 4 ∷ []) ∷ []) ∷
-    -- "Take after Link: 5. Shade twice: 0, then 6."
+    (counts (worked 33) ∷ (getD (worked 33 .colour) 3 0 ∷ []) ∷ counts
+    (worked 61) ∷ (appended (step collecting (worked 61) .answer) ∷ []) ∷ counts
+    (worked 63) ∷ [])
+    ((1 ∷ 0 ∷ 33 ∷ 5 ∷ []) ∷ (0 ∷ []) ∷ (1 ∷ 28 ∷ 33 ∷ 4 ∷ []) ∷ (3 ∷ []) ∷ (2 ∷ 0 ∷ 30 ∷ 4 ∷ []) ∷
+    []) ∷
+    -- [Figures 5]
     figure
     (answers (linking (at 0 0) 0 (at 0 0) ∷ taking (at 0 0) 0 ∷ shading ∷ shading ∷ []) five)
     ((0 ∷ 2 ∷ []) ∷ (5 ∷ 0 ∷ []) ∷ (0 ∷ 2 ∷ []) ∷ (6 ∷ 0 ∷ []) ∷ []) ∷
-    -- "M = 2: 1. M = 66, R = 64: 0. M = 65, R = 64: 1."
+    -- [Figures 6]
     figure
     (map (λ (o : Outcome). codeOf (o .answer) ∷ []) (starts 2 1 ∷ starts 66 64 ∷ starts 65 64 ∷ []))
     ((1 ∷ []) ∷ (0 ∷ []) ∷ (1 ∷ []) ∷ []) ∷
-    -- "count 12 passes, 13 gives 4; count 1 with word 2 gives 4."
+    -- [Figures 7]
     figure
-    (answers (looking (at 12 0) ∷ looking (at 12 4095) ∷ looking (at 13 0) ∷ looking (at 1 2) ∷ []) five)
+    (answers (looking (at 12 0) ∷ looking (at 12 4095) ∷ looking (at 13 0) ∷ looking (at 1 2) ∷ [])
+    five)
     ((0 ∷ 0 ∷ []) ∷ (0 ∷ 0 ∷ []) ∷ (4 ∷ 0 ∷ []) ∷ (4 ∷ 0 ∷ []) ∷ []) ∷
     []
 
@@ -123,5 +146,9 @@ Agrees [] = Unit {0}
 Agrees (f ∷ fs) = (f .computed ≡ f .told) × Agrees fs
 
 pub figures : Agrees table
-unfolding pick every first unless edgeOf withEdge shadeIn badEdge oneMore afterAppend sizeOk phaseOk owedOk lastOk bound countsOk recordOk checkOf tabulate nextFree freshLeft freshLast freshState fresh turnsOk placeCode walkFrom arrive sideCode owedCode look depart linkTo link pay shadeOwed badFree relink takeNext takeFirst take shadeStep afterRoots scanStep edgeStep blackStep append appendWhite appendStep phaseStep collect step run collects
+unfolding pick every first unless edgeOf withEdge cleared shadeIn badEdge oneMore afterAppend sizeOk
+    phaseOk owedOk lastOk bound cycleOk toldOk countsOk recordOk checkOf tabulate nextFree freshLeft
+    freshLast freshState fresh sidesOk turnsOk placeCode walkFrom arrive sideCode owedCode look
+    depart linkTo link pay shadeOwed badFree relink takeNext takeFirst take shadeStep afterRoots
+    scanStep edgeStep blackStep append appendWhite appendStep phaseStep collect step run collects
 figures = (refl, (refl, (refl, (refl, (refl, (refl, (refl, (refl, tt))))))))

@@ -1,7 +1,7 @@
--- The two forms that are lent structs: what they promise determines the outcome, and they are runs of steps.
--- The check makes no `Learnt` of such a function: here it is read off the generated contract, by the library's own reading.
-use mathlib.Core.Path.{_≡_, refl, sym, ap, _∙_}
-use mathlib.Core.List.{[], _∷_}
+-- The two forms that are lent structs: what they promise determines the outcome, and what they
+-- leave. The check makes no `Learnt` of such a function: here it is read off the generated
+-- contract, by the library's own reading.
+use mathlib.Core.Path.{_≡_, refl}
 use base.Logic.{emp}
 use contract.Lifetimes.{Lfts}
 use denote.Ref.{now}
@@ -9,44 +9,56 @@ use denote.Triple.Clauses.{AtExit}
 use borrow.Fn.Claims.{AllOf}
 use borrow.Fn.World.{ArgsD, ResD}
 use borrow.Fn.Read.{all-models, no-know, r-last}
-use lib.ListN.{take}
-use Rattle.rules.specs.Table.{Outcome, state, outcome}
-use Rattle.rules.specs.Steps.{run, collecting}
-use Rattle.rules.specs.Schedules.{Followed, ran}
+use Rattle.rules.specs.Table.{outcome}
+use Rattle.rules.specs.Schedules.{ran}
 use Rattle.frame.proofs.collect_in_place as frame
 use Rattle.schedule.proofs.schedule as sched
-use Rattle.schedule.proofs.Runs.{schedule-run}
+use Rattle.promises.specs.Runs.{lent}
+use Rattle.promises.specs.Calls.{CollectInPlace, Schedule, left-by, rattle}
 use Rattle.promises.proofs.Determined.{determined}
+use Rattle.promises.proofs.Covered.{lent-by, lent-by-run}
 
--- what a caller learns of a call: κs the lifetimes, a the arguments, r what it hands back, s what is lent as the call leaves it
-abbrev pub FrameLearnt : (κs : Lfts 4) → ArgsD frame.signature κs → ResD frame.signature κs → AtExit frame.ended κs → Type 0
+-- what a caller learns of a call: κs the lifetimes, a the arguments, r what it hands back, s what
+-- is lent as the call leaves it
+abbrev pub FrameLearnt : (κs : Lfts 4) → ArgsD frame.signature κs → ResD frame.signature κs
+    → AtExit frame.ended κs → Type 0
 FrameLearnt κs a r s =
-    AllOf (all-models {Base = λ w. emp (w .𝓤)} {Know = no-know} (λ w. frame.clauses (w .𝓤) (w .H) (w .𝓖 .A) (w .𝓜 .mem) (w .𝓡 .run) κs a .ensures tt r s) (λ w. r-last _) (λ w. refl) (λ w. refl) (λ w. refl) .tells)
+    AllOf (all-models {Base = λ w. emp (w .𝓤)} {Know = no-know}
+    (λ w. frame.clauses (w .𝓤) (w .H) (w .𝓖 .A) (w .𝓜 .mem) (w .𝓡 .run) κs a .ensures tt r s)
+    (λ w. r-last _) (λ w. refl) (λ w. refl) (λ w. refl) .tells)
 
-abbrev pub ScheduleLearnt : (κs : Lfts 4) → ArgsD sched.signature κs → ResD sched.signature κs → AtExit sched.ended κs → Type 0
+abbrev pub ScheduleLearnt : (κs : Lfts 4) → ArgsD sched.signature κs → ResD sched.signature κs
+    → AtExit sched.ended κs → Type 0
 ScheduleLearnt κs a r s =
-    AllOf (all-models {Base = λ w. emp (w .𝓤)} {Know = no-know} (λ w. sched.clauses (w .𝓤) (w .H) (w .𝓖 .A) (w .𝓜 .mem) (w .𝓡 .run) κs a .ensures tt r s) (λ w. r-last _) (λ w. refl) (λ w. refl) (λ w. refl) .tells)
+    AllOf (all-models {Base = λ w. emp (w .𝓤)} {Know = no-know}
+    (λ w. sched.clauses (w .𝓤) (w .H) (w .𝓖 .A) (w .𝓜 .mem) (w .𝓡 .run) κs a .ensures tt r s)
+    (λ w. r-last _) (λ w. refl) (λ w. refl) (λ w. refl) .tells)
 
-pub collect-in-place-determined : (κs : _) (a : _) (r r′ : _) (s s′ : _) → FrameLearnt κs a r s → FrameLearnt κs a r′ s′
-    → outcome (record { answer = r; rec = now (s .1 .1 .1 .0) }) (now (s .0)) (now (s .1 .0)) (now (s .1 .1 .0))
-    ≡ outcome (record { answer = r′; rec = now (s′ .1 .1 .1 .0) }) (now (s′ .0)) (now (s′ .1 .0)) (now (s′ .1 .1 .0))
+pub collect-in-place-determined : (κs : _) (a : _) (r r′ : _) (s s′ : _) → FrameLearnt κs a r s
+    → FrameLearnt κs a r′ s′
+    → outcome (record { answer = r; rec = now (s .1 .1 .1 .0) }) (now (s .0)) (now (s .1 .0))
+    (now (s .1 .1 .0))
+    ≡ outcome (record { answer = r′; rec = now (s′ .1 .1 .1 .0) }) (now (s′ .0)) (now (s′ .1 .0))
+    (now (s′ .1 .1 .0))
 collect-in-place-determined κs a r r′ s s′ = determined
 
-pub schedule-determined : (κs : _) (a : _) (r r′ : _) (s s′ : _) → ScheduleLearnt κs a r s → ScheduleLearnt κs a r′ s′
-    → ran r (now (s .1 .0)) (now (s .1 .1 .0)) (now (s .1 .1 .1 .0)) ≡ ran r′ (now (s′ .1 .0)) (now (s′ .1 .1 .0)) (now (s′ .1 .1 .1 .0))
+pub schedule-determined : (κs : _) (a : _) (r r′ : _) (s s′ : _) → ScheduleLearnt κs a r s
+    → ScheduleLearnt κs a r′ s′
+    → ran r (now (s .1 .0)) (now (s .1 .1 .0)) (now (s .1 .1 .1 .0))
+    ≡ ran r′ (now (s′ .1 .0)) (now (s′ .1 .1 .0)) (now (s′ .1 .1 .1 .0))
 schedule-determined κs a r r′ s s′ = determined
 
--- the entry is one step
-pub collect-in-place-run : (κs : _) (a : _) (r : _) (s : _) → FrameLearnt κs a r s
-    → state (now (s .0)) (now (s .1 .0)) (now (s .1 .1 .0)) (now (s .1 .1 .1 .0))
-    ≡ run (collecting ∷ []) (state (now (a .0)) (now (a .1 .0)) (now (a .1 .1 .0)) (now (a .1 .1 .1 .0)))
-unfolding run
-collect-in-place-run κs a r s e = ap (λ (o : Outcome). o .state) e
+-- what each leaves is what specs/Calls.antt says of it
+pub collect-in-place-leaves : (κs : _) (a : _) (r : _) (s : _) → FrameLearnt κs a r s
+    → lent (now (s .0)) (now (s .1 .0)) (now (s .1 .1 .0)) (now (s .1 .1 .1 .0))
+    ≡ rattle .leaves CollectInPlace
+    (lent (now (a .0)) (now (a .1 .0)) (now (a .1 .1 .0)) (now (a .1 .1 .1 .0)))
+unfolding left-by
+collect-in-place-leaves κs a r s = lent-by
 
--- a schedule is the steps that it did
-pub schedule-is-run : (κs : _) (a : _) (r : _) (s : _) → ScheduleLearnt κs a r s
-    → state (now (s .1 .0)) (now (s .1 .1 .0)) (now (s .1 .1 .1 .0)) (r .rec)
-    ≡ run (take (r .done) (now (a .0))) (state (now (a .1 .0)) (now (a .1 .1 .0)) (now (a .1 .1 .1 .0)) (a .1 .1 .1 .1 .0))
-schedule-is-run κs a r s e =
-    let x = state (now (a .1 .0)) (now (a .1 .1 .0)) (now (a .1 .1 .1 .0)) (a .1 .1 .1 .1 .0) in
-    ap (λ (z : Followed). z .state) e ∙ schedule-run (now (a .0)) x ∙ ap (λ (z : Followed). run (take (z .done) (now (a .0))) x) (sym e)
+pub schedule-leaves : (κs : _) (a : _) (r : _) (s : _) → ScheduleLearnt κs a r s
+    → lent (now (s .1 .0)) (now (s .1 .1 .0)) (now (s .1 .1 .1 .0)) (r .rec)
+    ≡ rattle .leaves (Schedule (now (a .0)))
+    (lent (now (a .1 .0)) (now (a .1 .1 .0)) (now (a .1 .1 .1 .0)) (a .1 .1 .1 .1 .0))
+unfolding left-by
+schedule-leaves κs a r s = lent-by-run

@@ -1,6 +1,9 @@
 pub mod Determined
 pub mod Figures
 pub mod Wrong
+pub mod Runs
+pub mod Calls
+pub mod Words
 pub mod Covered
 pub mod Lent
 pub mod Many

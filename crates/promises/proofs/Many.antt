@@ -1,24 +1,23 @@
--- Many collector steps in one call: the promise determines the outcome, and the call is a run of steps.
-use mathlib.Core.Path.{_≡_, sym, ap, _∙_}
+-- Many collector steps in one call: the promise determines the outcome, and what the call leaves.
+use mathlib.Core.Path.{_≡_}
 use denote.Ref.{now}
-use lib.ListN.{take}
-use Rattle.rules.specs.Table.{state}
-use Rattle.rules.specs.Steps.{run}
-use Rattle.rules.specs.Schedules.{Followed, collects}
-use Rattle.schedule.proofs.Runs.{schedule-run}
 use Rattle.batch.specs.Last.{many}
 use Rattle.batch.proofs.collect_many.Reads as collect-many
+use Rattle.promises.specs.Runs.{lent}
+use Rattle.promises.specs.Calls.{CollectMany, left-by, rattle}
 use Rattle.promises.proofs.Determined.{determined}
+use Rattle.promises.proofs.Covered.{lent-by-run}
 
-pub collect-many-determined : (κs : _) (a : _) (r r′ : _) (s s′ : _) → collect-many.Learnt κs a r s → collect-many.Learnt κs a r′ s′
-    → (many r (now (s .0)) (now (s .1 .0)) (now (s .1 .1 .0)) ≡ many r′ (now (s′ .0)) (now (s′ .1 .0)) (now (s′ .1 .1 .0))) × (r .answer ≡ r′ .answer)
+pub collect-many-determined : (κs : _) (a : _) (r r′ : _) (s s′ : _)
+    → collect-many.Learnt κs a r s → collect-many.Learnt κs a r′ s′
+    → (many r (now (s .0)) (now (s .1 .0)) (now (s .1 .1 .0))
+    ≡ many r′ (now (s′ .0)) (now (s′ .1 .0)) (now (s′ .1 .1 .0))) × (r .answer ≡ r′ .answer)
 collect-many-determined κs a r r′ s s′ p q = (determined (p .0) (q .0), determined (p .1) (q .1))
 
--- the steps that it did, of the n that it was given
-pub collect-many-run : (κs : _) (a : _) (r : _) (s : _) → collect-many.Learnt κs a r s
-    → state (now (s .0)) (now (s .1 .0)) (now (s .1 .1 .0)) (r .rec)
-    ≡ run (take (r .done) (collects (a .1 .1 .1 .1 .0))) (state (now (a .0)) (now (a .1 .0)) (now (a .1 .1 .0)) (a .1 .1 .1 .0))
-collect-many-run κs a r s e =
-    let x = state (now (a .0)) (now (a .1 .0)) (now (a .1 .1 .0)) (a .1 .1 .1 .0) in
-    let steps = collects (a .1 .1 .1 .1 .0) in
-    ap (λ (z : Followed). z .state) (e .0) ∙ schedule-run steps x ∙ ap (λ (z : Followed). run (take (z .done) steps) x) (sym (e .0))
+-- what it leaves is what specs/Calls.antt says of it
+pub collect-many-leaves : (κs : _) (a : _) (r : _) (s : _) → collect-many.Learnt κs a r s
+    → lent (now (s .0)) (now (s .1 .0)) (now (s .1 .1 .0)) (r .rec)
+    ≡ rattle .leaves (CollectMany (a .1 .1 .1 .1 .0))
+    (lent (now (a .0)) (now (a .1 .0)) (now (a .1 .1 .0)) (a .1 .1 .1 .0))
+unfolding left-by
+collect-many-leaves κs a r s e = lent-by-run (e .0)

@@ -1,4 +1,5 @@
--- What the promises rule out: wrong steps, each with a state and a step at which it does not do what the promise says. One table that the checker computes.
+-- What the promises rule out: wrong steps, each with a state and a step at which it does not do
+-- what the promise says. One table that the checker computes.
 use Prim.Native.Nat.{ℕ, _+_, _-_}
 use mathlib.Core.Path.{_≡_, refl, sym, ap, _∙_}
 use mathlib.Core.Logic.{_≢_}
@@ -8,14 +9,21 @@ use lib.Dec.{ltb, leb, eqb}
 use borrow.Author.Tests.{eqb-true, eqb-false}
 use Rattle.base.proofs.Tests.{each, not-yes}
 use Rattle.base.specs.Choice.{pick, every, first}
-use Rattle.rules.specs.Table.{State, Outcome, state, did, refuse, unless, black, left, right, edgeOf, edge, withEdge, colourOf, withColour, shadeIn, shade, badEdge}
-use Rattle.rules.specs.Records.{withLast, owing, moved, marked, rescan, oneMore, afterAppend}
-use Rattle.rules.specs.Check.{sizeOk, phaseOk, owedOk, lastOk, bound, countsOk, recordOk, checkOf, check}
+use Rattle.rules.specs.Table.{State, sides, Outcome, state, did, refuse, unless, black, left, right}
+use Rattle.rules.specs.Table.{edgeOf, edge, withEdge, cleared, colourOf, withColour, shadeIn, shade}
+use Rattle.rules.specs.Table.{badEdge}
+use Rattle.rules.specs.Records.{freshRecord, withPhase, withOwed, withLast, withSteps, withInuse}
+use Rattle.rules.specs.Records.{owing, moved, marked, rescan, oneMore, afterAppend}
+use Rattle.rules.specs.Check.{sizeOk, phaseOk, owedOk, lastOk, bound, cycleOk, toldOk, countsOk}
+use Rattle.rules.specs.Check.{recordOk, checkOf, check}
 use Rattle.rules.specs.Fresh.{tabulate, nextFree, freshLeft, freshLast, freshState, fresh}
-use Rattle.rules.specs.Places.{turnsOk, placeCode, walkFrom, walk, arrive}
-use Rattle.rules.specs.Editor.{sideCode, owedCode, look, depart, linkTo, link, pay, shadeOwed, badFree, relink, takeNext, takeFirst, take}
-use Rattle.rules.specs.Collector.{shadeStep, afterRoots, scanStep, edgeStep, blackStep, append, appendWhite, appendStep, phaseStep, collect}
-use Rattle.rules.specs.Steps.{step, run, source, target, taking, linking, shading, collecting, codeOf, nodeOf}
+use Rattle.rules.specs.Places.{sidesOk, turnsOk, placeCode, walkFrom, walk, arrive}
+use Rattle.rules.specs.Editor.{sideCode, owedCode, look, depart, linkTo, link, pay, shadeOwed}
+use Rattle.rules.specs.Editor.{badFree, relink, takeNext, takeFirst, take}
+use Rattle.rules.specs.Collector.{shadeStep, afterRoots, scanStep, edgeStep, blackStep, append}
+use Rattle.rules.specs.Collector.{appendWhite, appendStep, phaseStep, collect}
+use Rattle.rules.specs.Steps.{step, run, source, target, taking, linking, shading, collecting}
+use Rattle.rules.specs.Steps.{codeOf, nodeOf}
 use Rattle.rules.specs.Schedules.{collects}
 use Rattle.rules.specs.declared.Record.{Record}
 use Rattle.rules.specs.declared.Place.{Place}
@@ -25,71 +33,79 @@ use Rattle.rules.specs.declared.Owed.the-variants.{Nothing, Node}
 use Rattle.rules.specs.declared.Phase.{Phase}
 use Rattle.rules.specs.declared.Phase.the-variants.{Roots, Scan, Left, Right, Black, Append}
 use Rattle.rules.specs.declared.Answer.{Answer}
-use Rattle.rules.specs.declared.Answer.the-variants.{Started, Named, Linked, Taken, Shaded, Looked, Blackened, Whitened, Appended, Refused}
+use Rattle.rules.specs.declared.Answer.the-variants.{Started, Named, Linked, Taken, Shaded, Looked}
+use Rattle.rules.specs.declared.Answer.the-variants.{Blackened, Whitened, Appended, Refused}
 use Rattle.promises.proofs.Figures.{at, three, five}
 
 -- ---- wrong steps; `kind k f` is honest but for the kind k
 abbrev kind : ℕ → (Step → State → Outcome) → Step → State → Outcome
 kind k f a s = pick (eqb (a .kind) k) (f a s) (step a s)
 
--- "a collector that refuses every call"
+-- [Mistakes 6]
 abbrev refusesAll : Step → State → Outcome
 refusesAll a s = refuse s 2 0
 
--- "one that answers "looked" every time"
+-- [Mistakes 7]
 abbrev looksOnly : Step → State → Outcome
-looksOnly = kind 3 (λ a s. record { answer = Looked (nodeOf (step a s .answer)); state = step a s .state })
+looksOnly =
+    kind 3 (λ a s. record { answer = Looked (nodeOf (step a s .answer)); state = step a s .state })
 
--- "one that writes nothing": the record moves, the table stays
+-- [Mistakes 8] the record moves, the table stays
 abbrev writesNothing : Step → State → Outcome
 writesNothing = kind 3 (λ a s. did (step a s .answer) s (step a s .state .rec))
 
--- "one that collects honestly for its first cycle and then only moves its position"
+-- [Mistakes 9]
 abbrev honestOnce : Step → State → Outcome
 honestOnce = kind 3 (λ a s. pick (eqb (s .rec .cycles) 0) (step a s) (writesNothing a s))
-
--- the record with other counts
-abbrev counted : Record → ℕ → ℕ → Record
-counted x steps inuse =
-    record { m = x .m; r = x .r; phase = x .phase; owed = x .owed; last = x .last; steps = steps; cycles = x .cycles; took = x .took; blackened = x .blackened; inuse = inuse }
 
 abbrev inRecord : (Record → Record) → Outcome → Outcome
 inRecord f o = did (o .answer) (o .state) (f (o .state .rec))
 
--- "one with invented step counts or nodes in use"
+-- [Mistakes 10] invented steps, and invented in use
 abbrev inventsSteps : Step → State → Outcome
-inventsSteps = kind 3 (λ a s. inRecord (λ x. counted x (x .steps + 1) (x .inuse)) (step a s))
+inventsSteps = kind 3 (λ a s. inRecord (λ x. withSteps x (x .steps + 1)) (step a s))
 
 abbrev inventsInUse : Step → State → Outcome
-inventsInUse = kind 3 (λ a s. inRecord (λ x. counted x (x .steps) (x .m)) (step a s))
+inventsInUse = kind 3 (λ a s. inRecord (λ x. withInuse x (x .m)) (step a s))
 
--- "Shading before the edge moves": Link shades, and leaves the edge for later
+-- [Mistakes 1] Link shades, and leaves the edge for later
 abbrev shadesFirst : Step → State → Outcome
 shadesFirst =
-    kind 1 (λ a s. depart s (source a) (λ n. arrive s (walk s (target a)) (λ t. did (Linked t) (shade s t) (owing (s .rec) t))))
+    kind 1 (λ a s. depart s (source a)
+    (λ n. arrive s (walk s (target a)) (λ t. did (Linked t) (shade s t) (owing (s .rec) t))))
 
--- "Ending the marking after one pass without gray that began before the last blackening": Black does not begin the pass again
+-- [Mistakes 2] Black does not begin the pass again
 abbrev onePass : Phase → State → Outcome
 onePass (Roots i) s = collect s
 onePass (Scan i k) s = collect s
 onePass (Left i) s = collect s
 onePass (Right i) s = collect s
 onePass (Black i) s =
-    did (Blackened i) (withColour s i black) (pick (eqb (i + 1) (s .rec .m)) (marked (s .rec)) (moved (rescan (s .rec) i) (Scan (i + 1) (s .rec .m - (i + 1)))))
+    did (Blackened i) (withColour s i black)
+    (pick (eqb (i + 1) (s .rec .m)) (marked (s .rec))
+    (moved (rescan (s .rec) i) (Scan (i + 1) (s .rec .m - (i + 1)))))
 onePass (Append i) s = collect s
 
 abbrev passesOnce : Step → State → Outcome
 passesOnce = kind 3 (λ a s. onePass (s .rec .phase) s)
 
--- "Making the target of Link black."
+-- [Mistakes 3]
 abbrev blackensTarget : Step → State → Outcome
-blackensTarget = kind 1 (λ a s. did (step a s .answer) (withColour (step a s .state) (nodeOf (step a s .answer)) black) (step a s .state .rec))
+blackensTarget =
+    kind 1 (λ a s. did (step a s .answer)
+    (withColour (step a s .state) (nodeOf (step a s .answer)) black) (step a s .state .rec))
 
--- "Leaving an appended node's right edge."
+-- [Mistakes 4]
 abbrev keepsRight : Step → State → Outcome
-keepsRight = kind 3 (λ a s. record { answer = step a s .answer; state = withEdge (step a s .state) right (nodeOf (step a s .answer)) (edge s right (nodeOf (step a s .answer))) })
+keepsRight =
+    kind 3
+    (λ a s. record {
+      answer = step a s .answer;
+      state = withEdge (step a s .state) right
+          (nodeOf (step a s .answer)) (edge s right (nodeOf (step a s .answer)));
+    })
 
--- "Leaving last at the node taken when the list runs out."
+-- [Mistakes 5]
 abbrev keepsLast : Step → State → Outcome
 keepsLast = kind 0 (λ a s. inRecord (λ x. withLast x (s .rec .last)) (step a s))
 
@@ -103,23 +119,28 @@ leavesFirst = kind 0 (λ a s. unshaded s (step a s) (nodeOf (step a s .answer)))
 abbrev leavesNext : Step → State → Outcome
 leavesNext = kind 0 (λ a s. unshaded s (step a s) (edge s left (nodeOf (step a s .answer))))
 
--- 5 judged before the second place's 3
+-- [Order 1] 5 judged before the second place's 3
 abbrev owedEarly : Step → State → Outcome
 owedEarly =
-    kind 1 (λ a s. unless (first (check s ∷ sideCode (a .side) ∷ placeCode (s .rec .r) (source a) ∷ owedCode (s .rec .owed) ∷ placeCode (s .rec .r) (target a) ∷ [])) s (step a s))
+    kind 1
+    (λ a s. unless
+    (first (check s ∷ sideCode (sides s) (a .side) ∷ placeCode (sides s) (s .rec .r)
+    (source a) ∷ owedCode (s .rec .owed) ∷ placeCode (sides s) (s .rec .r) (target a) ∷ [])) s
+    (step a s))
 
--- 8 judged after the second walk
+-- [Order 2] 8 judged after the second walk
 abbrev absentLate : Step → State → Outcome
 absentLate = kind 1 (λ a s. arrive s (walk s (target a)) (λ t. step a s))
 
--- Append without "a white node that is last"
+-- Append that passes last if it is white [Damage 4]
 abbrev appendsLast : Phase → State → Outcome
 appendsLast (Roots i) s = collect s
 appendsLast (Scan i k) s = collect s
 appendsLast (Left i) s = collect s
 appendsLast (Right i) s = collect s
 appendsLast (Black i) s = collect s
-appendsLast (Append i) s = pick (eqb i (s .rec .last)) (did (Appended i) (append s i) (afterAppend (withLast (s .rec) i) i)) (collect s)
+appendsLast (Append i) s = pick (eqb i (s .rec .last))
+    (did (Appended i) (append s i) (afterAppend (withLast (s .rec) i) i)) (collect s)
 
 abbrev missesLast : Step → State → Outcome
 missesLast = kind 3 (λ a s. appendsLast (s .rec .phase) s)
@@ -135,15 +156,18 @@ mildOwed (Node n) m = ltb n m
 -- without owed 1; without last in the slots; without steps at B
 abbrev withoutOwed : Record → Bool
 withoutOwed x =
-    every (phaseOk (x .m) (x .r) (x .phase) ∷ mildOwed (x .owed) (x .m) ∷ lastOk (x .m) (x .r) (x .last) ∷ countsOk x (bound (x .m) (x .r)) ∷ [])
+    every (phaseOk (x .m) (x .r) (x .phase) ∷ mildOwed (x .owed) (x .m) ∷ lastOk (x .m) (x .r)
+    (x .last) ∷ countsOk x (bound 2 (x .m) (x .r)) ∷ [])
 
 abbrev withoutLast : Record → Bool
 withoutLast x =
-    every (phaseOk (x .m) (x .r) (x .phase) ∷ owedOk (x .m) (x .owed) ∷ ltb (x .last) (x .m) ∷ countsOk x (bound (x .m) (x .r)) ∷ [])
+    every (phaseOk (x .m) (x .r) (x .phase) ∷ owedOk (x .m) (x .owed) ∷ ltb (x .last)
+    (x .m) ∷ countsOk x (bound 2 (x .m) (x .r)) ∷ [])
 
 abbrev withoutSteps : Record → Bool
 withoutSteps x =
-    every (phaseOk (x .m) (x .r) (x .phase) ∷ owedOk (x .m) (x .owed) ∷ lastOk (x .m) (x .r) (x .last) ∷ countsOk x (bound (x .m) (x .r) + 1) ∷ [])
+    every (phaseOk (x .m) (x .r) (x .phase) ∷ owedOk (x .m) (x .owed) ∷ lastOk (x .m) (x .r)
+    (x .last) ∷ countsOk x (bound 2 (x .m) (x .r) + 1) ∷ [])
 
 -- ---- states: runs from a fresh table where a run leads there, else invented
 abbrev one : State
@@ -154,12 +178,14 @@ two = run (taking (at 0 0) 0 ∷ taking (at 0 0) 1 ∷ []) five
 
 -- node 3 is garbage with a right edge, and is appended by the next step
 abbrev litter : State
-litter = run (collects 56) (run (taking (at 0 0) 0 ∷ taking (at 1 0) 1 ∷ linking (at 0 0) 0 (at 1 1) ∷ shading ∷ []) five)
+litter =
+    run (collects 56)
+    (run (taking (at 0 0) 0 ∷ taking (at 1 0) 1 ∷ linking (at 0 0) 0 (at 1 1) ∷ shading ∷ [])
+    five)
 
 -- a record of five nodes at a phase
 abbrev made : Phase → Owed → ℕ → ℕ → Record
-made p o last steps =
-    record { m = 5; r = 1; phase = p; owed = o; last = last; steps = steps; cycles = 0; took = 0; blackened = 0; inuse = 0 }
+made p o last steps = withSteps (withOwed (withPhase (freshRecord 5 1 last) p) o) steps
 
 abbrev invented : Record → State
 invented x = state (0 ∷ 3 ∷ 0 ∷ 4 ∷ 0 ∷ []) (0 ∷ 0 ∷ 9 ∷ 0 ∷ 0 ∷ []) (0 ∷ 0 ∷ 0 ∷ 0 ∷ 0 ∷ []) x
@@ -197,7 +223,8 @@ looks (Right i) = 0
 looks (Black i) = 0
 looks (Append i) = 0
 
--- ---- the table: at this state this step is done wrong; what is seen gives one number, and the promise another
+-- ---- the table: at this state this step is done wrong; what is seen gives one number, and the
+-- promise another
 pub record Row : Type 0 where
   pub wrong : Step → State → Outcome
   pub move : Step
@@ -224,7 +251,8 @@ table =
     row keepsLast (taking (at 0 0) 1) one (λ o. o .state .rec .last) 4 1 ∷
     row leavesFirst (taking (at 0 0) 0) five (colour 3) 0 1 ∷
     row leavesNext (taking (at 0 0) 0) five (colour 4) 0 1 ∷
-    row owedEarly (linking (at 0 0) 0 elsewhere) (run (linking (at 0 0) 0 (at 0 0) ∷ []) five) code 5 3 ∷
+    row owedEarly (linking (at 0 0) 0 elsewhere) (run (linking (at 0 0) 0 (at 0 0) ∷ []) five) code
+    5 3 ∷
     row absentLate (linking (at 1 0) 0 (at 1 1)) (invented (made (Roots 0) Nothing 4 0)) code 7 8 ∷
     row missesLast collecting (invented (made (Append 4) Nothing 4 0)) code 0 7 ∷
     row (asks withoutOwed) collecting (invented (made (Roots 0) (Node 1) 4 0)) code 0 2 ∷
@@ -235,15 +263,22 @@ table =
 -- whether in a row the wrong step gives the one number, the promised one the other, and they differ
 abbrev pub caught : Row → Bool
 caught r =
-    every (eqb (r .seen (r .wrong (r .move) (r .start))) (r .gives) ∷ eqb (r .seen (step (r .move) (r .start))) (r .promised) ∷ not (eqb (r .gives) (r .promised)) ∷ [])
+    every (eqb (r .seen (r .wrong (r .move) (r .start))) (r .gives) ∷ eqb
+    (r .seen (step (r .move) (r .start))) (r .promised) ∷ not
+    (eqb (r .gives) (r .promised)) ∷ [])
 
 -- a step that is caught does not meet the promise
-pub not-promised : (r : Row) → caught r ≡ true → r .wrong (r .move) (r .start) ≢ step (r .move) (r .start)
+pub not-promised : (r : Row) → caught r ≡ true
+    → r .wrong (r .move) (r .start) ≢ step (r .move) (r .start)
 not-promised r c e =
     let t = each _ (sym c) in
     eqb-false (r .gives) (r .promised) (sym (not-yes _ (t .1 .1 .0)))
     (sym (eqb-true _ _ (t .0)) ∙ ap (r .seen) e ∙ eqb-true _ _ (t .1 .0))
 
 pub ruled-out : every (map caught table) ≡ true
-unfolding pick every first unless edgeOf withEdge shadeIn badEdge oneMore afterAppend sizeOk phaseOk owedOk lastOk bound countsOk recordOk checkOf tabulate nextFree freshLeft freshLast freshState fresh turnsOk placeCode walkFrom arrive sideCode owedCode look depart linkTo link pay shadeOwed badFree relink takeNext takeFirst take shadeStep afterRoots scanStep edgeStep blackStep append appendWhite appendStep phaseStep collect step run collects
+unfolding pick every first unless edgeOf withEdge cleared shadeIn badEdge oneMore afterAppend sizeOk
+    phaseOk owedOk lastOk bound cycleOk toldOk countsOk recordOk checkOf tabulate nextFree freshLeft
+    freshLast freshState fresh sidesOk turnsOk placeCode walkFrom arrive sideCode owedCode look
+    depart linkTo link pay shadeOwed badFree relink takeNext takeFirst take shadeStep afterRoots
+    scanStep edgeStep blackStep append appendWhite appendStep phaseStep collect step run collects
 ruled-out = refl

@@ -1,1 +1,2 @@
-// No code: what the calls' promises amount to. Each fixes its outcome, the document's figures come out, and wrong collectors are ruled out.
+// No code: what the calls' promises amount to. Each fixes its outcome, the figures of docs/RULES.md
+// come out, and wrong collectors are ruled out.

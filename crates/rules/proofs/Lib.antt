@@ -3,3 +3,4 @@ pub mod Good
 pub mod Laws
 pub mod Walks
 pub mod Refused
+pub mod Rows

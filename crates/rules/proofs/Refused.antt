@@ -1,12 +1,14 @@
--- A refused step leaves the state as it was: by the cases of the definitions.
+-- [Answers 4] A refused step leaves the state as it was: by the cases of the definitions.
 use Prim.Native.Nat.{ℕ}
 use mathlib.Core.Bool.{Bool, true, false}
 use mathlib.Core.Path.{_≡_, refl}
 use Rattle.base.specs.Choice.{pick}
 use Rattle.rules.specs.Table.{State, Outcome, unless}
 use Rattle.rules.specs.Places.{arrive}
-use Rattle.rules.specs.Editor.{look, depart, linkTo, link, pay, shadeOwed, takeNext, takeFirst, take}
-use Rattle.rules.specs.Collector.{shadeStep, scanStep, edgeStep, blackStep, appendWhite, appendStep, phaseStep, collect}
+use Rattle.rules.specs.Editor.{look, depart, linkTo, link, pay, shadeOwed, takeNext}
+use Rattle.rules.specs.Editor.{takeFirst, take}
+use Rattle.rules.specs.Collector.{shadeStep, scanStep, edgeStep, blackStep, appendWhite}
+use Rattle.rules.specs.Collector.{appendStep, phaseStep, collect}
 use Rattle.rules.specs.Steps.{step, codeOf}
 use Rattle.rules.specs.declared.Step.{Step}
 use Rattle.rules.specs.declared.Walk.{Walk}
@@ -57,11 +59,15 @@ module _ (s : State) where
   takes : (side f n : ℕ) → Stays (takeFirst s side f n)
   unfolding takeFirst takeNext
   takes side f n =
-      either _ _ _ refused (either _ _ _ refused (either _ _ _ refused (either _ _ _ refused (either _ _ _ done (either _ _ _ refused done)))))
+      either _ _ _ refused (either _ _ _ refused
+      (either _ _ _ refused (either _ _ _ refused
+      (either _ _ _ done (either _ _ _ refused done)))))
 
   pub refused-stays : (a : Step) → Stays (step a s)
   unfolding step take link linkTo depart shadeOwed collect look
   refused-stays a =
       either _ _ _ (judged _ _ (arrives _ _ (λ n. either _ _ _ refused (takes _ _ _))))
       (either _ _ _ (judged _ _ (arrives _ _ (λ n. either _ _ _ refused (arrives _ _ (λ t. done)))))
-      (either _ _ _ (judged _ _ (pays _)) (either _ _ _ (judged _ _ (phases _)) (either _ _ _ (judged _ _ (arrives _ _ (λ n. done))) refused))))
+      (either _ _ _ (judged _ _ (pays _))
+      (either _ _ _ (judged _ _ (phases _))
+      (either _ _ _ (judged _ _ (arrives _ _ (λ n. done))) refused))))

@@ -1,23 +1,25 @@
--- Codes 1 and 2: the sizes and the record's test. Document 01, "The node table", "The record" and "Codes".
+-- [Codes 1] and [Codes 2]: the sizes and the record's test. [Order 5] Nothing else is judged.
 use Rattle.base.specs.Choice.{pick, every}
 use Prim.Native.Nat.{ℕ, _+_, _*_}
 use mathlib.Core.Bool.{Bool, true, _||_, not}
-use mathlib.Core.List.{[], _∷_}
+use mathlib.Core.List.{List, [], _∷_, _++_, map}
 use lib.ListN.{length}
 use lib.Dec.{ltb, leb, eqb}
-use Rattle.rules.specs.Table.{State, FREE}
+use Rattle.rules.specs.Table.{State, FREE, mostNodes, mostSlots}
 use Rattle.rules.specs.declared.Record.{Record}
 use Rattle.rules.specs.declared.Phase.{Phase}
 use Rattle.rules.specs.declared.Phase.the-variants.{Roots, Scan, Left, Right, Black, Append}
 use Rattle.rules.specs.declared.Owed.{Owed}
 use Rattle.rules.specs.declared.Owed.the-variants.{Nothing, Node}
 
--- "M is 3 to 4,096. R slots: 1 to 64, and R + 2 is at most M." 1: "M or R out of range, or the three lengths and the record's M differ"
-unfoldable pub sizeOk : ℕ → ℕ → ℕ → ℕ → ℕ → Bool
-sizeOk m r lefts rights colours =
-    every (leb 3 m ∷ leb m 4096 ∷ leb 1 r ∷ leb r 64 ∷ leb (r + 2) m ∷ eqb lefts m ∷ eqb rights m ∷ eqb colours m ∷ [])
+-- [Table 1] the ranges of M and R; [Codes 1] and each array has M entries. The lengths are those of
+-- the edges, and the colours'.
+unfoldable pub sizeOk : ℕ → ℕ → List ℕ → ℕ → Bool
+sizeOk m r edges colours =
+    every (leb 3 m ∷ leb m mostNodes ∷ leb 1 r ∷ leb r mostSlots ∷ leb (r + 2)
+    m ∷ (map (λ n. eqb n m) edges ++ (eqb colours m ∷ [])))
 
--- 2: "a position outside its phase". "Roots i (i up to R + 1), Scan i with k (i below M, k from 1 to M), Left i, Right i, Black i, Append i (i below M)"
+-- [Record 3] the position of the phase
 unfoldable pub phaseOk : ℕ → ℕ → Phase → Bool
 phaseOk m r (Roots i) = leb i (r + 1)
 phaseOk m r (Scan i k) = every (ltb i m ∷ leb 1 k ∷ leb k m ∷ [])
@@ -26,30 +28,39 @@ phaseOk m r (Right i) = ltb i m
 phaseOk m r (Black i) = ltb i m
 phaseOk m r (Append i) = ltb i m
 
--- 2: "owed node 1 or at least M"
+-- [Codes 2] the node owed: any but FREE
 unfoldable pub owedOk : ℕ → Owed → Bool
 owedOk m Nothing = true
 owedOk m (Node n) = every (not (eqb n FREE) ∷ ltb n m ∷ [])
 
--- 2: "last not 1 and not in R + 2..M − 1"
+-- [Codes 2] last: a node that can be free, or FREE for none [Record 5]
 unfoldable pub lastOk : ℕ → ℕ → ℕ → Bool
 lastOk m r n = eqb n FREE || every (leb (r + 2) n ∷ ltb n m ∷ [])
 
--- "B = M×M + 5×M + R + 2"
-unfoldable pub bound : ℕ → ℕ → ℕ
-bound m r = m * m + 5 * m + r + 2
+-- [Record 11] B, where a node has E edges; the rule is for two
+unfoldable pub bound : ℕ → ℕ → ℕ → ℕ
+bound E m r = m * m + (3 + E) * m + r + 2
 
--- 2: "blackened or nodes in use above M; steps at least B; last cycle's steps above B"
+-- [Codes 2] what the cycle counts, b being B
+unfoldable pub cycleOk : Record → ℕ → Bool
+cycleOk x b = every (leb (x .blackened) (x .m) ∷ ltb (x .steps) b ∷ [])
+
+-- [Codes 2] what earlier cycles told
+unfoldable pub toldOk : Record → ℕ → Bool
+toldOk x b = every (leb (x .inuse) (x .m) ∷ leb (x .took) b ∷ [])
+
 unfoldable pub countsOk : Record → ℕ → Bool
-countsOk x b = every (leb (x .blackened) (x .m) ∷ leb (x .inuse) (x .m) ∷ ltb (x .steps) b ∷ leb (x .took) b ∷ [])
+countsOk x b = every (cycleOk x b ∷ toldOk x b ∷ [])
 
-unfoldable pub recordOk : Record → Bool
-recordOk x =
-    every (phaseOk (x .m) (x .r) (x .phase) ∷ owedOk (x .m) (x .owed) ∷ lastOk (x .m) (x .r) (x .last) ∷ countsOk x (bound (x .m) (x .r)) ∷ [])
+unfoldable pub recordOk : ℕ → Record → Bool
+recordOk E x =
+    every (phaseOk (x .m) (x .r) (x .phase) ∷ owedOk (x .m) (x .owed) ∷ lastOk (x .m) (x .r)
+    (x .last) ∷ countsOk x (bound E (x .m) (x .r)) ∷ [])
 
 -- codes 1 and 2, for slices of these lengths
-unfoldable pub checkOf : ℕ → ℕ → ℕ → Record → ℕ
-checkOf lefts rights colours x = pick (sizeOk (x .m) (x .r) lefts rights colours) (pick (recordOk x) 0 2) 1
+unfoldable pub checkOf : List ℕ → ℕ → Record → ℕ
+checkOf edges colours x =
+    pick (sizeOk (x .m) (x .r) edges colours) (pick (recordOk (length edges) x) 0 2) 1
 
 abbrev pub check : State → ℕ
-check s = checkOf (length (s .left)) (length (s .right)) (length (s .colour)) (s .rec)
+check s = checkOf (map length (s .edges)) (length (s .colour)) (s .rec)

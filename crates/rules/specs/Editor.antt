@@ -1,12 +1,14 @@
--- Look, Link, Shade and Take. Document 01, "Editor steps" and "Codes":
--- "Order: 1, 2, 10, then 3 and 4 for the first place, 3 and 4 for the second, 5 or 6, then 7 and 8 along the first walk, 7 along the second, then 7 for
--- a bad left edge of FREE, 9, 7 for the rest." "Values that a step needs are all read before it writes, in the order told".
+-- The sections Look, Link, Shade and Take of docs/RULES.md. The order of the tests in each
+-- definition is that of the section Order: [Order 1] what needs no array's content, in one list
+-- under `first`; [Order 2] the walks; [Order 3] the rest of Take. [Order 4] `did` stands after
+-- every test.
 use Rattle.base.specs.Choice.{pick, every, first}
 use Prim.Native.Nat.{ℕ, _+_}
 use mathlib.Core.Bool.{Bool, _||_}
 use mathlib.Core.List.{[], _∷_}
-use lib.Dec.{leb, eqb}
-use Rattle.rules.specs.Table.{State, Outcome, did, refuse, unless, NIL, FREE, left, edge, withEdge, shade, badColour}
+use lib.Dec.{ltb, leb, eqb}
+use Rattle.rules.specs.Table.{State, sides, Outcome, did, refuse, unless, NIL, FREE, left}
+use Rattle.rules.specs.Table.{edge, withEdge, shade, badColour}
 use Rattle.rules.specs.Records.{owing, paid, withLast}
 use Rattle.rules.specs.Check.{check}
 use Rattle.rules.specs.Places.{placeCode, walk, arrive}
@@ -15,50 +17,57 @@ use Rattle.rules.specs.declared.Owed.{Owed}
 use Rattle.rules.specs.declared.Owed.the-variants.{Nothing, Node}
 use Rattle.rules.specs.declared.Answer.the-variants.{Named, Linked, Shaded, Taken}
 
--- 10: "a side [..] that isn't one of those given"
-unfoldable pub sideCode : ℕ → ℕ
-sideCode side = pick (leb side 1) 0 10
+-- [Codes 10] a side that the table has
+unfoldable pub sideCode : ℕ → ℕ → ℕ
+sideCode E side = pick (ltb side E) 0 10
 
--- 5: "Link or Take while a shade is owed"
+-- [Codes 5] a shade is owed
 unfoldable pub owedCode : Owed → ℕ
 owedCode Nothing = 0
 owedCode (Node n) = 5
 
--- "Look (a place): answers the node. NIL is allowed and is answered as 0."
+-- [Look 1] names the node at a place; [Look 2] the state stays
 unfoldable pub look : Place → State → Outcome
 look p s =
-    unless (first (check s ∷ placeCode (s .rec .r) p ∷ [])) s
+    unless (first (check s ∷ placeCode (sides s) (s .rec .r) p ∷ [])) s
     (arrive s (walk s p) (λ n. did (Named n) s (s .rec)))
 
--- 8: "the source place of Link or Take is NIL"
+-- [Codes 8] the way to a source, which is not NIL
 unfoldable pub depart : State → Place → (ℕ → Outcome) → Outcome
 depart s p go = arrive s (walk s p) (λ n. pick (eqb n NIL) (refuse s 8 0) (go n))
 
--- "that edge of the source now points to the target, and the target's shade is owed. [..] Answers the target."
+-- [Link 1] the source n's edge leads to the target, [Link 2] whose shade is owed, [Link 5] and
+-- which is answered; [Link 3] the target may be any node, [Link 6] and no colour or old edge is
+-- read
 unfoldable pub linkTo : State → ℕ → Place → ℕ → Outcome
-linkTo s side q n = arrive s (walk s q) (λ t. did (Linked t) (withEdge s side n t) (owing (s .rec) t))
+linkTo s side q n =
+    arrive s (walk s q) (λ t. did (Linked t) (withEdge s side n t) (owing (s .rec) t))
 
--- "Link (source place, side, target place)"; "Both places are walked in the table as it was before."
+-- [Link 4] both walks are in s, before the edge is written
 unfoldable pub link : Place → ℕ → Place → State → Outcome
 link p side q s =
-    unless (first (check s ∷ sideCode side ∷ placeCode (s .rec .r) p ∷ placeCode (s .rec .r) q ∷ owedCode (s .rec .owed) ∷ [])) s
+    unless
+    (first (check s ∷ sideCode (sides s) side ∷ placeCode (sides s) (s .rec .r) p ∷ placeCode
+    (sides s) (s .rec .r) q ∷ owedCode (s .rec .owed) ∷ [])) s
     (depart s p (linkTo s side q))
 
--- "Shade: shades the node owed and answers it; nothing is owed afterwards." 6: "Shade with nothing owed"
+-- [Shade 1] the node owed is shaded and answered, [Shade 2] and nothing is owed; [Codes 6] else
+-- refused
 unfoldable pub pay : State → Owed → Outcome
 pay s Nothing = refuse s 6 0
 pay s (Node n) =
     pick (badColour s n) (refuse s 7 n) (did (Shaded n) (shade s n) (paid (s .rec)))
 
+-- [Shade 3] a step of its own, after Link's
 unfoldable pub shadeOwed : State → Outcome
 shadeOwed s = unless (check s) s (pay s (s .rec .owed))
 
--- "a free-chain edge read by Take that is 1 to R + 1 or at least M"
+-- [Damage 2] a free list's edge that leads to FREE, to a slot's node or out of the table
 unfoldable pub badFree : ℕ → ℕ → ℕ → Bool
 badFree m r e = leb m e || every (leb 1 e ∷ leb e (r + 1) ∷ [])
 
--- "The edge points to f; FREE's left edge becomes g; f's left edge becomes 0; f is shaded"; "Writes follow the order told too: where a damaged table
--- lets the source be f itself, f's left edge ends as 0."
+-- [Take 3] the three edges in their order, which counts where the source is f [Take 9]; then f is
+-- shaded [Take 4]. [Take 8] f's right edge is not written.
 unfoldable pub relink : State → ℕ → ℕ → ℕ → ℕ → State
 relink s n side f g =
     let pointed = withEdge s side n f in
@@ -66,7 +75,9 @@ relink s n side f g =
     let cut = withEdge freed left f 0 in
     shade cut f
 
--- "for Take after FREE's left edge that is f's left edge, f's colour, then g's colour"; "g is shaded unless it is 0; if g is 0, last becomes 1. Nothing is owed. Answers f."
+-- [Take 2] f's left edge g, f's colour and g's colour are judged in this order; [Take 4] g is
+-- shaded if there is one, [Take 5] and if there is none the list is empty. [Take 6] The record is
+-- else as it was; [Take 7] f is answered.
 unfoldable pub takeNext : State → ℕ → ℕ → ℕ → ℕ → Outcome
 takeNext s n side f g =
     pick (badFree (s .rec .m) (s .rec .r) g) (refuse s 7 f)
@@ -75,15 +86,17 @@ takeNext s n side f g =
     (pick (badColour s g) (refuse s 7 g)
     (did (Taken f) (shade (relink s n side f g) g) (s .rec)))))
 
--- "f is the first free node, g its successor": "7 for a bad left edge of FREE, 9, 7 for the rest"
+-- [Take 1] f is the first free node: [Codes 9] there is one; g is the next
 unfoldable pub takeFirst : State → ℕ → ℕ → ℕ → Outcome
 takeFirst s side f n =
     pick (badFree (s .rec .m) (s .rec .r) f) (refuse s 7 FREE)
     (pick (eqb f 0) (refuse s 9 0)
     (takeNext s n side f (edge s left f)))
 
--- "Take (place, side)"
+-- [Take 1] from a place, on a side
 unfoldable pub take : Place → ℕ → State → Outcome
 take p side s =
-    unless (first (check s ∷ sideCode side ∷ placeCode (s .rec .r) p ∷ owedCode (s .rec .owed) ∷ [])) s
+    unless
+    (first (check s ∷ sideCode (sides s) side ∷ placeCode (sides s) (s .rec .r) p ∷ owedCode
+    (s .rec .owed) ∷ [])) s
     (depart s p (takeFirst s side (edge s left FREE)))

@@ -1,11 +1,17 @@
--- What codes 1 and 2 being 0 tells, as plain facts: what the inner functions rely on. No promise rests on this file.
+-- What codes 1 and 2 being 0 tells, as plain facts: what the inner functions rely on. No promise
+-- rests on this file.
 use Prim.Native.Nat.{ℕ, _+_, _≤_, _<_}
 use mathlib.Core.Path.{_≡_}
+use Rattle.rules.specs.Table.{mostNodes, mostSlots}
 use Rattle.rules.specs.declared.Record.{Record}
 use Rattle.rules.specs.declared.Phase.{Phase}
 use Rattle.rules.specs.declared.Phase.the-variants.{Roots, Scan, Left, Right, Black, Append}
 use Rattle.rules.specs.declared.Owed.{Owed}
 use Rattle.rules.specs.declared.Owed.the-variants.{Nothing, Node}
+
+-- a number above any count of steps: B is smaller, whatever M and R are
+abbrev pub manySteps : ℕ
+manySteps = 20000000
 
 -- a position inside its phase
 abbrev pub Inside : ℕ → ℕ → Phase → Type 0
@@ -21,11 +27,16 @@ abbrev pub Owable : ℕ → Owed → Type 0
 Owable m Nothing = Unit {0}
 Owable m (Node n) = n < m
 
+-- what earlier cycles told, b being B
+pub record Tells (x : Record) (b : ℕ) : Type 0 where
+  pub in-use : x .inuse ≤ x .m
+  pub took : x .took ≤ b
+
 pub record Good (ll rl cl : ℕ) (x : Record) : Type 0 where
   pub m-low : 3 ≤ x .m
-  pub m-high : x .m ≤ 4096
+  pub m-high : x .m ≤ mostNodes
   pub r-low : 1 ≤ x .r
-  pub r-high : x .r ≤ 64
+  pub r-high : x .r ≤ mostSlots
   pub room : x .r + 2 ≤ x .m
   pub lefts : ll ≡ x .m
   pub rights : rl ≡ x .m
@@ -33,4 +44,4 @@ pub record Good (ll rl cl : ℕ) (x : Record) : Type 0 where
   pub last-low : 1 ≤ x .last
   pub last-high : x .last < x .m
   pub blackened : x .blackened ≤ x .m
-  pub steps : x .steps < 20000000
+  pub steps : x .steps < manySteps

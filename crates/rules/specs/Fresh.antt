@@ -1,53 +1,47 @@
--- Fresh. Document 01, "The record", last paragraph.
+-- The section Fresh of docs/RULES.md.
 use Rattle.base.specs.Choice.{pick}
 use Prim.Native.Nat.{ℕ, zero, suc, _+_, _-_}
-use mathlib.Core.List.{List, [], _∷_, _++_}
-use lib.ListN.{length}
+use mathlib.Core.List.{List, [], _∷_, _++_, map}
+use lib.ListN.{length, replicate}
 use lib.Dec.{ltb, eqb}
-use Rattle.rules.specs.Table.{State, Outcome, state, white, FREE}
+use Rattle.rules.specs.Table.{State, Outcome, table, refused, white, FREE}
+use Rattle.rules.specs.Records.{freshRecord}
 use Rattle.rules.specs.Check.{sizeOk}
-use Rattle.rules.specs.declared.Record.{Record}
-use Rattle.rules.specs.declared.Answer.the-variants.{Started, Refused}
-use Rattle.rules.specs.declared.Phase.the-variants.{Roots}
-use Rattle.rules.specs.declared.Owed.the-variants.{Nothing}
+use Rattle.rules.specs.declared.Answer.the-variants.{Started}
 
 -- f 0, f 1, .., f (n - 1)
 unfoldable pub tabulate : (ℕ → ℕ) → ℕ → List ℕ
 tabulate f zero = []
 tabulate f (suc n) = tabulate f n ++ (f n ∷ [])
 
--- the node after n on the free list of a fresh table; 0 after the last
+-- [Fresh 3] the node after n on the free list of a fresh table; 0 after the last
 unfoldable pub nextFree : ℕ → ℕ → ℕ
 nextFree m n = pick (ltb (n + 1) m) (n + 1) 0
 
--- "slot edges 0, nodes R + 2 to M − 1 on the free list in rising order"; FREE's "left edge is the first free node (0 if none)"
+-- [Fresh 3] the left edges of the free list, FREE's among them [Table 6]; [Fresh 4] any other is 0
 unfoldable pub freshLeft : ℕ → ℕ → ℕ → ℕ
 freshLeft m r n = pick (eqb n FREE) (nextFree m (r + 1)) (pick (ltb n (r + 2)) 0 (nextFree m n))
 
--- every right edge 0
+-- [Fresh 4] the edges on the other sides
 abbrev pub noEdge : ℕ → ℕ
 noEdge n = 0
 
--- "every colour white"
+-- [Fresh 2]
 abbrev pub allWhite : ℕ → ℕ
 allWhite n = white
 
--- "the last free node (1 if the list is empty)"
+-- [Record 5] the last free node; FREE where none is free
 unfoldable pub freshLast : ℕ → ℕ → ℕ
 freshLast m r = pick (ltb (r + 2) m) (m - 1) FREE
 
--- "Roots 0, nothing owed, all counts 0"
-abbrev pub freshRecord : ℕ → ℕ → ℕ → Record
-freshRecord m r last =
-    record { m = m; r = r; phase = Roots 0; owed = Nothing; last = last; steps = 0; cycles = 0; took = 0; blackened = 0; inuse = 0 }
+unfoldable pub freshState : ℕ → ℕ → ℕ → State
+freshState E m r =
+    table (tabulate (freshLeft m r) m ∷ replicate (E - 1) (tabulate noEdge m)) (tabulate allWhite m)
+    (freshRecord m r (freshLast m r))
 
-unfoldable pub freshState : ℕ → ℕ → State
-freshState m r =
-    state (tabulate (freshLeft m r) m) (tabulate noEdge m) (tabulate allWhite m) (freshRecord m r (freshLast m r))
-
--- "Fresh is given M and R". "If refused, the slices keep their contents and the record has M, R, last and every count 0, Roots 0, nothing owed."
-unfoldable pub fresh : ℕ → ℕ → List ℕ → List ℕ → List ℕ → Outcome
-fresh m r lefts rights colours =
-    pick (sizeOk m r (length lefts) (length rights) (length colours))
-    (record { answer = Started (freshLast m r); state = freshState m r })
-    (record { answer = Refused 1 0; state = state lefts rights colours (freshRecord 0 0 0) })
+-- [Fresh 1] whatever the lists held; [Fresh 6] answers last; [Fresh 7] [Fresh 8] or is refused
+unfoldable pub fresh : ℕ → ℕ → List (List ℕ) → List ℕ → Outcome
+fresh m r edges colours =
+    pick (sizeOk m r (map length edges) (length colours))
+    (record { answer = Started (freshLast m r); state = freshState (length edges) m r })
+    (record { answer = refused 1 0; state = table edges colours (freshRecord 0 0 0) })

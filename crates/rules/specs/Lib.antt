@@ -8,3 +8,4 @@ pub mod Collector
 pub mod Steps
 pub mod Schedules
 pub mod Facts
+pub mod Lent

@@ -1,4 +1,5 @@
--- The record's steps. Document 01, "The record", "Editor steps" and "Collector steps".
+-- The record: how Fresh makes it, and how a step moves it. [Record 12] What is not told to change
+-- is as it was.
 use Rattle.base.specs.Choice.{pick}
 use Prim.Native.Nat.{ℕ, _+_, _%_}
 use lib.Dec.{ltb, eqb}
@@ -8,7 +9,7 @@ use Rattle.rules.specs.declared.Phase.the-variants.{Roots, Scan, Left, R
 use Rattle.rules.specs.declared.Owed.{Owed}
 use Rattle.rules.specs.declared.Owed.the-variants.{Nothing, Node}
 
--- "The phase is one of six cases carrying its own position": its i
+-- [Record 2] the position of a phase: its i
 abbrev pub position : Phase → ℕ
 position (Roots i) = i
 position (Scan i k) = i
@@ -17,54 +18,112 @@ position (Right i) = i
 position (Black i) = i
 position (Append i) = i
 
+-- [Fresh 5] the record that Fresh makes
+abbrev pub freshRecord : ℕ → ℕ → ℕ → Record
+freshRecord m r last =
+    record {
+      m = m;
+      r = r;
+      phase = Roots 0;
+      owed = Nothing;
+      last = last;
+      steps = 0;
+      cycles = 0;
+      took = 0;
+      blackened = 0;
+      inuse = 0;
+    }
+
+-- x with these in place of its own; all that follows is made by it. M and R stay as Fresh made
+-- them.
+abbrev pub remade : Record → Phase → Owed → ℕ → ℕ → ℕ → ℕ → ℕ → ℕ → Record
+remade x phase owed last steps cycles took blackened inuse =
+    record {
+      m = x .m;
+      r = x .r;
+      phase = phase;
+      owed = owed;
+      last = last;
+      steps = steps;
+      cycles = cycles;
+      took = took;
+      blackened = blackened;
+      inuse = inuse;
+    }
+
+-- where the record stands: the counts stay
+abbrev placed : Record → Phase → Owed → ℕ → Record
+placed x phase owed last =
+    remade x phase owed last (x .steps) (x .cycles) (x .took) (x .blackened) (x .inuse)
+
+-- the counts
+abbrev counted : Record → ℕ → ℕ → ℕ → ℕ → ℕ → Record
+counted x steps cycles took blackened inuse =
+    remade x (x .phase) (x .owed) (x .last) steps cycles took blackened inuse
+
+-- one field
 abbrev pub withPhase : Record → Phase → Record
-withPhase x p =
-    record { m = x .m; r = x .r; phase = p; owed = x .owed; last = x .last; steps = x .steps; cycles = x .cycles; took = x .took; blackened = x .blackened; inuse = x .inuse }
+withPhase x p = placed x p (x .owed) (x .last)
 
 abbrev pub withOwed : Record → Owed → Record
-withOwed x o =
-    record { m = x .m; r = x .r; phase = x .phase; owed = o; last = x .last; steps = x .steps; cycles = x .cycles; took = x .took; blackened = x .blackened; inuse = x .inuse }
+withOwed x o = placed x (x .phase) o (x .last)
 
 abbrev pub withLast : Record → ℕ → Record
-withLast x n =
-    record { m = x .m; r = x .r; phase = x .phase; owed = x .owed; last = n; steps = x .steps; cycles = x .cycles; took = x .took; blackened = x .blackened; inuse = x .inuse }
+withLast x n = placed x (x .phase) (x .owed) n
 
--- "the target's shade is owed"
+abbrev pub withSteps : Record → ℕ → Record
+withSteps x n = counted x n (x .cycles) (x .took) (x .blackened) (x .inuse)
+
+abbrev pub withCycles : Record → ℕ → Record
+withCycles x n = counted x (x .steps) n (x .took) (x .blackened) (x .inuse)
+
+abbrev pub withTook : Record → ℕ → Record
+withTook x n = counted x (x .steps) (x .cycles) n (x .blackened) (x .inuse)
+
+abbrev pub withBlackened : Record → ℕ → Record
+withBlackened x n = counted x (x .steps) (x .cycles) (x .took) n (x .inuse)
+
+abbrev pub withInuse : Record → ℕ → Record
+withInuse x n = counted x (x .steps) (x .cycles) (x .took) (x .blackened) n
+
+-- [Link 2] node n's shade is owed [Record 4]
 abbrev pub owing : Record → ℕ → Record
 owing x n = withOwed x (Node n)
 
--- "nothing is owed afterwards"
+-- [Shade 2] nothing is owed
 abbrev pub paid : Record → Record
 paid x = withOwed x Nothing
 
--- "Every collector step that is done counts one." The phase is p now.
+-- [Collector 2] one more step is done [Record 6], and the phase is p now
 abbrev pub moved : Record → Phase → Record
-moved x p =
-    record { m = x .m; r = x .r; phase = p; owed = x .owed; last = x .last; steps = x .steps + 1; cycles = x .cycles; took = x .took; blackened = x .blackened; inuse = x .inuse }
+moved x p = withSteps (withPhase x p) (x .steps + 1)
 
--- "Append 0, and nodes in use is set": it "is the number of nodes blackened in the last completed marking"
+-- [Scan 4] the marking is complete, and in use is what blackened is [Record 10]
 abbrev pub marked : Record → Record
-marked x =
-    record { m = x .m; r = x .r; phase = Append 0; owed = x .owed; last = x .last; steps = x .steps + 1; cycles = x .cycles; took = x .took; blackened = x .blackened; inuse = x .blackened }
+marked x = withInuse (moved x (Append 0)) (x .blackened)
 
--- "the next i (modulo M)"
+-- [Collector 3] the node after i
 abbrev pub next : Record → ℕ → ℕ
 next x i = (i + 1) % x .m
 
--- "add one to nodes blackened, then Scan at the next i (modulo M) with k = M"
+-- [Black 2] one more node is black [Record 9], and the scan begins anew
 abbrev pub rescan : Record → ℕ → Record
-rescan x i =
-    record { m = x .m; r = x .r; phase = Scan (next x i) (x .m); owed = x .owed; last = x .last; steps = x .steps + 1; cycles = x .cycles; took = x .took; blackened = x .blackened + 1; inuse = x .inuse }
+rescan x i = withBlackened (moved x (Scan (next x i) (x .m))) (x .blackened + 1)
 
--- "cycles completed (32 bits, stays at its largest value)"
+-- [Record 7] the largest number that 32 bits hold
+abbrev pub mostCycles : ℕ
+mostCycles = 4294967295
+
+-- [Record 7] one more cycle, where 32 bits hold it
 unfoldable pub oneMore : ℕ → ℕ
-oneMore n = pick (ltb n 4294967295) (n + 1) n
+oneMore n = pick (ltb n mostCycles) (n + 1) n
 
--- "the cycle is complete: the steps become the last cycle's count, steps and blackened become 0, Roots 0"; this step is counted
+-- [Append 5] the cycle is complete; this step is among those that it took [Record 8]
 abbrev pub closed : Record → Record
 closed x =
-    record { m = x .m; r = x .r; phase = Roots 0; owed = x .owed; last = x .last; steps = 0; cycles = oneMore (x .cycles); took = x .steps + 1; blackened = 0; inuse = x .inuse }
+    let told = withCycles (withTook x (x .steps + 1)) (oneMore (x .cycles)) in
+    withPhase (withBlackened (withSteps told 0) 0) (Roots 0)
 
--- "After i = M − 1 the cycle is complete", before it Append at the next i
+-- [Append 4] on to the next node; [Append 5] there is none after M − 1
 unfoldable pub afterAppend : Record → ℕ → Record
 afterAppend x i = pick (eqb (i + 1) (x .m)) (closed x) (moved x (Append (i + 1)))

@@ -1,4 +1,4 @@
--- Schedules, and many collector steps at once. Document 01, "Collector steps", last paragraph.
+-- Schedules, and many collector steps at once: the sections Schedules and Many of docs/RULES.md.
 use Rattle.base.specs.Choice.{pick}
 use Prim.Native.Nat.{ℕ, zero, suc, _+_}
 use mathlib.Core.List.{List, [], _∷_}
@@ -9,7 +9,7 @@ use Rattle.rules.specs.Steps.{step, collecting, codeOf}
 use Rattle.rules.specs.declared.Step.{Step}
 use Rattle.rules.specs.declared.Ran.{Ran}
 
--- "the answer is how many were done and the code"; and the state that is left
+-- [Schedules 3] how many steps were done and the code; and the state that is left
 pub record Followed : Type 0 where
   pub done : ℕ
   pub code : ℕ
@@ -22,17 +22,19 @@ followed n code s = record { done = n; code = code; state = s }
 abbrev pub ran : Ran → List ℕ → List ℕ → List ℕ → Followed
 ran d l r c = followed (d .done) (d .code) (state l r c (d .rec))
 
--- "done in order until one is refused, which changes nothing while the earlier ones stand", after n that were done
+-- [Schedules 1] one step after another until one is refused, [Schedules 2] which leaves the state
+-- that the earlier ones made; n were done before
 unfoldable pub follow : List Step → ℕ → State → Followed
 follow [] n s = followed n 0 s
 follow (a ∷ rest) n s =
-    pick (eqb (codeOf (step a s .answer)) 0) (follow rest (n + 1) (step a s .state)) (followed n (codeOf (step a s .answer)) s)
+    pick (eqb (codeOf (step a s .answer)) 0) (follow rest (n + 1) (step a s .state))
+    (followed n (codeOf (step a s .answer)) s)
 
--- "Codes 1 and 2 are judged for an empty run too; otherwise it answers 0 and 0."
+-- [Schedules 4] codes 1 and 2 first, for no steps too
 unfoldable pub schedule : List Step → State → Followed
 schedule steps s = pick (eqb (check s) 0) (follow steps 0 s) (followed 0 (check s) s)
 
--- n collector steps
+-- [Many 1] n collector steps
 unfoldable pub collects : ℕ → List Step
 collects zero = []
 collects (suc n) = collecting ∷ collects n

@@ -1,4 +1,4 @@
--- One step, of any kind; the answers' numbers. Document 01, "Collector steps" (last paragraph) and "Codes".
+-- One step, of any kind; the answers' numbers: the sections Steps and Answers of docs/RULES.md.
 use Rattle.base.specs.Choice.{pick, first}
 use Prim.Native.Nat.{ℕ}
 use mathlib.Core.List.{List, [], _∷_}
@@ -10,17 +10,19 @@ use Rattle.rules.specs.Collector.{collect}
 use Rattle.rules.specs.declared.Place.{Place}
 use Rattle.rules.specs.declared.Step.{Step}
 use Rattle.rules.specs.declared.Answer.{Answer}
-use Rattle.rules.specs.declared.Answer.the-variants.{Started, Named, Linked, Taken, Shaded, Looked, Blackened, Whitened, Appended, Refused}
+use Rattle.rules.specs.declared.Answer.the-variants.{Started, Named, Linked, Taken, Shaded}
+use Rattle.rules.specs.declared.Answer.the-variants.{Looked, Blackened, Whitened, Appended}
+use Rattle.rules.specs.declared.Answer.the-variants.{Refused}
 
--- the source place, and the target's
+-- [Steps 1] the source place, and the target's
 abbrev pub source : Step → Place
 source a = record { slot = a .slot; count = a .count; word = a .word }
 
 abbrev pub target : Step → Place
 target a = record { slot = a .toslot; count = a .tocount; word = a .toword }
 
--- "The record kinds are 0 take, 1 link, 2 shade, 3 collect (one step), 4 look; fields that a kind has no use for aren't read."
--- 10: "kind above 4", after 1 and 2
+-- [Steps 2] the kinds; [Steps 3] each is given the numbers that it needs; [Steps 4] any other kind
+-- cannot be read [Codes 10]
 unfoldable pub step : Step → State → Outcome
 step a s =
     pick (eqb (a .kind) 0) (take (source a) (a .side) s)
@@ -30,7 +32,8 @@ step a s =
     (pick (eqb (a .kind) 4) (look (source a) s)
     (refuse s (first (check s ∷ 10 ∷ [])) 0)))))
 
--- a run: each step is given what the one before left, refused ones too
+-- [Runs 1] a run: each step, one moment [Calls 2], is given what the one before left, refused ones
+-- too
 unfoldable pub run : List Step → State → State
 run [] s = s
 run (a ∷ rest) s = run rest (step a s .state)
@@ -38,9 +41,19 @@ run (a ∷ rest) s = run rest (step a s .state)
 -- the step that each call makes
 abbrev pub stepOf : ℕ → Place → ℕ → Place → Step
 stepOf kind p side q =
-    record { kind = kind; slot = p .slot; count = p .count; word = p .word; side = side; toslot = q .slot; tocount = q .count; toword = q .word }
+    record {
+      kind =
+          kind;
+      slot = p .slot;
+      count = p .count;
+      word = p .word;
+      side = side;
+      toslot = q .slot;
+      tocount = q .count;
+      toword = q .word;
+    }
 
--- the fields that a kind has no use for
+-- [Steps 3] numbers that a kind does not need
 abbrev pub unread : Place
 unread = record { slot = 0; count = 0; word = 0 }
 
@@ -59,7 +72,7 @@ collecting = stepOf 3 unread 0 unread
 abbrev pub looking : Place → Step
 looking p = stepOf 4 p 0 unread
 
--- "a definition tells you this paper's number and values for each of its cases": the code, 0 where done
+-- [Answers 2] the code of an answer, [Codes 0] 0 where the call was done
 abbrev pub codeOf : Answer → ℕ
 codeOf (Started n) = 0
 codeOf (Named n) = 0
@@ -72,7 +85,7 @@ codeOf (Whitened n) = 0
 codeOf (Appended n) = 0
 codeOf (Refused code n) = code
 
--- and the node
+-- [Answers 2] and the node
 abbrev pub nodeOf : Answer → ℕ
 nodeOf (Started n) = n
 nodeOf (Named n) = n

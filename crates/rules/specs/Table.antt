@@ -1,47 +1,74 @@
--- The node table, and what a call makes of it. Document 01, "The node table" and "Codes".
+-- The node table, and what a call makes of it: the sections Table, Damage and Answers of
+-- docs/RULES.md.
 use Rattle.base.specs.Choice.{pick}
 use Prim.Native.Nat.{ℕ, _+_}
 use mathlib.Core.Bool.{Bool, _||_}
-use mathlib.Core.List.{List}
-use lib.ListN.{getD, set}
+use mathlib.Core.List.{List, [], _∷_, map}
+use lib.ListN.{length, getD, set}
 use lib.Dec.{ltb, leb, eqb}
 use Rattle.rules.specs.declared.Record.{Record}
 use Rattle.rules.specs.declared.Answer.{Answer}
 use Rattle.rules.specs.declared.Answer.the-variants.{Refused}
 use Rattle.rules.specs.declared.Made.{Made}
 
--- "M nodes, numbered from 0, in three lent slices of length M: left edges and right edges, as 16-bit numbers, and colours, as bytes"; the record beside them
+-- [Table 1] the most nodes, and the most slots
+abbrev pub mostNodes : ℕ
+mostNodes = 4096
+
+abbrev pub mostSlots : ℕ
+mostSlots = 64
+
+-- [Table 2] [Record 1] the table as lists, and the record beside them. A list of edges for each
+-- side, in the order of the sides.
 pub record State : Type 0 where
-  pub left : List ℕ
-  pub right : List ℕ
+  pub edges : List (List ℕ)
   pub colour : List ℕ
   pub rec : Record
 
--- what a call answers, and the state that it leaves
+-- the number of edges of a node: E
+abbrev pub sides : State → ℕ
+sides s = length (s .edges)
+
+-- [Answers 1] what a call answers, and the state that it leaves
 pub record Outcome : Type 0 where
   pub answer : Answer
   pub state : State
 
-abbrev pub state : List ℕ → List ℕ → List ℕ → Record → State
-state l r c x = record { left = l; right = r; colour = c; rec = x }
+abbrev pub table : List (List ℕ) → List ℕ → Record → State
+table es c x = record { edges = es; colour = c; rec = x }
 
--- what a function hands back, with the three slices as it leaves them
+-- a table of two edges
+abbrev pub state : List ℕ → List ℕ → List ℕ → Record → State
+state l r c x = table (l ∷ r ∷ []) c x
+
+-- what a function hands back, with the slices as it leaves them
+abbrev pub handed : Made → List (List ℕ) → List ℕ → Outcome
+handed d es c = record { answer = d .answer; state = table es c (d .rec) }
+
 abbrev pub outcome : Made → List ℕ → List ℕ → List ℕ → Outcome
-outcome d l r c = record { answer = d .answer; state = state l r c (d .rec) }
+outcome d l r c = handed d (l ∷ r ∷ []) c
 
 -- done: the answer, the table of s and the record x
 abbrev pub did : Answer → State → Record → Outcome
-did a s x = record { answer = a; state = state (s .left) (s .right) (s .colour) x }
+did a s x = record { answer = a; state = table (s .edges) (s .colour) x }
 
--- "A refused step answers node 0 (7 answers the node) and changes nothing."
+-- [Answers 3] who refuses answers a code and a node
+abbrev pub refused : ℕ → ℕ → Answer
+refused code node = Refused code node
+
+-- [Answers 4] a refusal: what a function hands back that refuses; the record stays
+abbrev pub refusal : ℕ → ℕ → Record → Made
+refusal code node x = record { answer = refused code node; rec = x }
+
+-- [Answers 4] refused: the state stays
 abbrev pub refuse : State → ℕ → ℕ → Outcome
-refuse s code node = record { answer = Refused code node; state = s }
+refuse s code node = record { answer = refused code node; state = s }
 
--- refused with node 0, unless the code is 0
+-- [Order 5] refused with node 0, unless the code is 0
 unfoldable pub unless : ℕ → State → Outcome → Outcome
 unless code s o = pick (eqb code 0) o (refuse s code 0)
 
--- "0 white, 1 gray, 2 black"
+-- [Table 4] the colours
 abbrev pub white : ℕ
 white = 0
 
@@ -51,55 +78,58 @@ gray = 1
 abbrev pub black : ℕ
 black = 2
 
--- "Node 0 is NIL."
+-- [Table 5]
 abbrev pub NIL : ℕ
 NIL = 0
 
--- "Node 1 is FREE."
+-- [Table 6]
 abbrev pub FREE : ℕ
 FREE = 1
 
--- "Nodes 0 to R + 1 are the roots."
+-- [Table 9] whether node n is a root
 abbrev pub isRoot : ℕ → ℕ → Bool
 isRoot r n = leb n (r + 1)
 
--- "A side is 0 left or 1 right."
+-- [Table 12] the sides
 abbrev pub left : ℕ
 left = 0
 
 abbrev pub right : ℕ
 right = 1
 
--- the edge of node n on a side
-unfoldable pub edgeOf : List ℕ → List ℕ → ℕ → ℕ → ℕ
-edgeOf lefts rights side n = pick (eqb side left) (getD lefts n 0) (getD rights n 0)
+-- [Table 3] the edge of node n on a side; 0 on a side that the table has not
+unfoldable pub edgeOf : List (List ℕ) → ℕ → ℕ → ℕ
+edgeOf es side n = getD (getD es side []) n 0
 
 abbrev pub edge : State → ℕ → ℕ → ℕ
-edge s side n = edgeOf (s .left) (s .right) side n
+edge s side n = edgeOf (s .edges) side n
 
 -- the edge of node n on a side now points to t
 unfoldable pub withEdge : State → ℕ → ℕ → ℕ → State
 withEdge s side n t =
-    pick (eqb side left) (state (set (s .left) n t) (s .right) (s .colour) (s .rec))
-    (state (s .left) (set (s .right) n t) (s .colour) (s .rec))
+    table (set (s .edges) side (set (getD (s .edges) side []) n t)) (s .colour) (s .rec)
+
+-- every edge of node n is 0 now
+unfoldable pub cleared : State → ℕ → State
+cleared s n = table (map (λ (es : List ℕ). set es n 0) (s .edges)) (s .colour) (s .rec)
 
 abbrev pub colourOf : State → ℕ → ℕ
 colourOf s n = getD (s .colour) n 0
 
 abbrev pub withColour : State → ℕ → ℕ → State
-withColour s n c = state (s .left) (s .right) (set (s .colour) n c) (s .rec)
+withColour s n c = table (s .edges) (set (s .colour) n c) (s .rec)
 
--- "To shade a node: white becomes gray, gray and black stay."
+-- [Table 11] node n shaded
 unfoldable pub shadeIn : List ℕ → ℕ → List ℕ
 shadeIn colours n = pick (eqb (getD colours n 0) white) (set colours n gray) colours
 
 abbrev pub shade : State → ℕ → State
-shade s n = state (s .left) (s .right) (shadeIn (s .colour) n) (s .rec)
+shade s n = table (s .edges) (shadeIn (s .colour) n) (s .rec)
 
--- "Bad: an edge at least M or equal to 1"
+-- [Damage 1] an edge that leads to FREE or out of the table
 unfoldable pub badEdge : ℕ → ℕ → Bool
 badEdge m e = leb m e || eqb e FREE
 
--- "a colour above 2"
+-- [Damage 3] a colour that is none
 abbrev pub badColour : State → ℕ → Bool
 badColour s n = ltb black (colourOf s n)

@@ -1,10 +1,28 @@
-// The types. Document 01 as definitions is in specs/; what is here is the record's test and its steps, and an answer's numbers.
+// The types. The rules as definitions are in specs/; what is here is the record's test and its
+// steps, and an answer's numbers.
 
 ghost use mathlib.Core.Path.{_≡_};
+ghost use mathlib.Core.List.{[], _∷_};
 ghost use Prim.Native.Nat.{_+_, _*_, _<_, _≤_};
-ghost use Rattle.rules.specs.Records.{position, withPhase, withOwed, withLast, owing, paid, moved, marked, rescan, oneMore, closed, afterAppend};
-ghost use Rattle.rules.specs.Check.{sizeOk, phaseOk, owedOk, lastOk, bound, countsOk, recordOk, checkOf};
+ghost use Rattle.rules.specs.Table.{mostNodes, mostSlots, refusal, refused};
+ghost use Rattle.rules.specs.Facts.{manySteps};
+ghost use Rattle.rules.specs.Records.{position, freshRecord, withPhase, withOwed, withLast};
+ghost use Rattle.rules.specs.Records.{owing, paid, moved, marked, rescan, oneMore, closed};
+ghost use Rattle.rules.specs.Records.{afterAppend};
+ghost use Rattle.rules.specs.Check.{sizeOk, phaseOk, owedOk, lastOk, bound, cycleOk, toldOk};
+ghost use Rattle.rules.specs.Check.{countsOk, recordOk, checkOf};
 ghost use Rattle.rules.specs.Steps.{codeOf, nodeOf};
+
+// [Table 1] The most nodes that a table has, and the most slots.
+pub const MOST_NODES: usize = 4096;
+
+pub const MOST_SLOTS: usize = 64;
+
+// [Places 2] The most turns of a place.
+pub const MOST_TURNS: u32 = 12;
+
+// [Record 7] The count of cycles goes no further.
+const MOST_CYCLES: u32 = 4294967295;
 
 // Where the collector is: six cases, each with its own position.
 pub enum Phase {
@@ -90,18 +108,18 @@ pub struct Ran {
 
 // Code 1: M and R in range, and the three lengths M.
 pub fn size_ok(m: usize, r: usize, lefts: usize, rights: usize, colours: usize) -> bool
-    ensures { λ ok. ⌜ ok ≡ sizeOk m r lefts rights colours ⌝ }
+    ensures { λ ok. ⌜ ok ≡ sizeOk m r (lefts ∷ rights ∷ []) colours ⌝ }
 {
     if m < 3 {
         return false;
     }
-    if 4096 < m {
+    if MOST_NODES < m {
         return false;
     }
     if r < 1 {
         return false;
     }
-    if 64 < r {
+    if MOST_SLOTS < r {
         return false;
     }
     if m < r + 2 {
@@ -120,7 +138,7 @@ pub fn size_ok(m: usize, r: usize, lefts: usize, rights: usize, colours: usize) 
 }
 
 fn phase_ok(m: u16, r: u16, p: Phase) -> bool
-    requires { ⌜ r ≤ 64 ⌝ }
+    requires { ⌜ r ≤ mostSlots ⌝ }
     ensures { λ ok. ⌜ ok ≡ phaseOk m r p ⌝ }
 {
     match p {
@@ -156,7 +174,7 @@ fn owed_ok(m: u16, owed: Owed) -> bool
 }
 
 fn last_ok(m: u16, r: u16, n: u16) -> bool
-    requires { ⌜ r ≤ 64 ⌝ }
+    requires { ⌜ r ≤ mostSlots ⌝ }
     ensures { λ ok. ⌜ ok ≡ lastOk m r n ⌝ }
 {
     if n == 1 {
@@ -170,31 +188,47 @@ fn last_ok(m: u16, r: u16, n: u16) -> bool
 
 // B, the most steps that a cycle may take.
 pub fn bound(m: u16, r: u16) -> u32
-    requires { ⌜ (m ≤ 4096) × (r ≤ 64) ⌝ }
-    ensures { λ b. ⌜ b ≡ bound m r ⌝ }
+    requires { ⌜ m ≤ mostNodes ⌝ }
+    requires { ⌜ r ≤ mostSlots ⌝ }
+    ensures { λ b. ⌜ b ≡ bound 2 m r ⌝ }
 {
     let n = m as u32;
     n * n + 5 * n + r as u32 + 2
 }
 
-fn counts_ok(x: Record, b: u32) -> bool
-    ensures { λ ok. ⌜ ok ≡ countsOk x b ⌝ }
+// What the cycle counts, b being B.
+pub fn cycle_ok(x: Record, b: u32) -> bool
+    ensures { λ ok. ⌜ ok ≡ cycleOk x b ⌝ }
 {
     if x.m < x.blackened {
         return false;
     }
+    x.steps < b
+}
+
+// What earlier cycles told.
+fn told_ok(x: Record, b: u32) -> bool
+    ensures { λ ok. ⌜ ok ≡ toldOk x b ⌝ }
+{
     if x.m < x.inuse {
-        return false;
-    }
-    if b <= x.steps {
         return false;
     }
     x.took <= b
 }
 
+fn counts_ok(x: Record, b: u32) -> bool
+    ensures { λ ok. ⌜ ok ≡ countsOk x b ⌝ }
+{
+    if !cycle_ok(x, b) {
+        return false;
+    }
+    told_ok(x, b)
+}
+
 fn record_ok(x: Record) -> bool
-    requires { ⌜ (x .m ≤ 4096) × (x .r ≤ 64) ⌝ }
-    ensures { λ ok. ⌜ ok ≡ recordOk x ⌝ }
+    requires { ⌜ x .m ≤ mostNodes ⌝ }
+    requires { ⌜ x .r ≤ mostSlots ⌝ }
+    ensures { λ ok. ⌜ ok ≡ recordOk 2 x ⌝ }
 {
     let phase = x.phase;
     if !phase_ok(x.m, x.r, phase) {
@@ -212,7 +246,7 @@ fn record_ok(x: Record) -> bool
 
 // Codes 1 and 2, for slices of these lengths; 0 where neither is given.
 pub fn check(lefts: usize, rights: usize, colours: usize, x: Record) -> u8
-    ensures { λ code. ⌜ code ≡ checkOf lefts rights colours x ⌝ }
+    ensures { λ code. ⌜ code ≡ checkOf (lefts ∷ rights ∷ []) colours x ⌝ }
 {
     if !size_ok(x.m as usize, x.r as usize, lefts, rights, colours) {
         return 1;
@@ -240,17 +274,45 @@ pub fn position(phase: Phase) -> u16
 fn one_more(n: u32) -> u32
     ensures { λ r. ⌜ r ≡ oneMore n ⌝ }
 {
-    if n < 4294967295 {
+    if n < MOST_CYCLES {
         return n + 1;
     }
     n
 }
 
+// [Answers 4] What a call that is refused hands back: the record stays.
+pub fn refusal(code: u8, node: u16, x: Record) -> Made
+    ensures { λ r. ⌜ r ≡ refusal code node x ⌝ }
+{
+    Made {
+        answer: Answer::refused(code, node),
+        rec: x,
+    }
+}
+
 impl Record {
-    fn with_phase(self, phase: Phase) -> Record
-        ensures { λ r. ⌜ r ≡ withPhase self phase ⌝ }
+    // Roots 0, nothing owed, all counts 0.
+    pub fn fresh(m: u16, r: u16, last: u16) -> Record
+        ensures { λ x. ⌜ x ≡ freshRecord m r last ⌝ }
     {
-        let owed = self.owed;
+        Record {
+            m,
+            r,
+            phase: Phase::Roots(0),
+            owed: Owed::Nothing,
+            last,
+            steps: 0,
+            cycles: 0,
+            took: 0,
+            blackened: 0,
+            inuse: 0,
+        }
+    }
+
+    // The record made anew: a field that is an enum cannot be stored to.
+    fn placed(self, phase: Phase, owed: Owed) -> Record
+        ensures { λ r. ⌜ r ≡ withOwed (withPhase self phase) owed ⌝ }
+    {
         Record {
             m: self.m,
             r: self.r,
@@ -263,24 +325,20 @@ impl Record {
             blackened: self.blackened,
             inuse: self.inuse,
         }
+    }
+
+    pub fn with_phase(self, phase: Phase) -> Record
+        ensures { λ r. ⌜ r ≡ withPhase self phase ⌝ }
+    {
+        let owed = self.owed;
+        self.placed(phase, owed)
     }
 
     fn with_owed(self, owed: Owed) -> Record
         ensures { λ r. ⌜ r ≡ withOwed self owed ⌝ }
     {
         let phase = self.phase;
-        Record {
-            m: self.m,
-            r: self.r,
-            phase,
-            owed,
-            last: self.last,
-            steps: self.steps,
-            cycles: self.cycles,
-            took: self.took,
-            blackened: self.blackened,
-            inuse: self.inuse,
-        }
+        self.placed(phase, owed)
     }
 
     // The shade of node n is owed.
@@ -307,7 +365,7 @@ impl Record {
 
     // A collector step is counted, and the phase moves.
     pub fn moved(mut self, phase: Phase) -> Record
-        requires { ⌜ self .steps < 20000000 ⌝ }
+        requires { ⌜ self .steps < manySteps ⌝ }
         ensures { λ r. ⌜ r ≡ moved self phase ⌝ }
     {
         self.steps = self.steps + 1;
@@ -316,7 +374,7 @@ impl Record {
 
     // The step that ends the marking: nodes in use is set.
     pub fn marked(mut self) -> Record
-        requires { ⌜ self .steps < 20000000 ⌝ }
+        requires { ⌜ self .steps < manySteps ⌝ }
         ensures { λ r. ⌜ r ≡ marked self ⌝ }
     {
         self.inuse = self.blackened;
@@ -325,7 +383,10 @@ impl Record {
 
     // The step that blackens node i: the scan begins again behind it.
     pub fn rescan(mut self, i: u16) -> Record
-        requires { ⌜ (self .steps < 20000000) × ((self .blackened ≤ 4096) × ((i < 4096) × (0 < self .m))) ⌝ }
+        requires { ⌜ self .steps < manySteps ⌝ }
+        requires { ⌜ self .blackened ≤ mostNodes ⌝ }
+        requires { ⌜ i < mostNodes ⌝ }
+        requires { ⌜ 0 < self .m ⌝ }
         ensures { λ r. ⌜ r ≡ rescan self i ⌝ }
     {
         self.blackened = self.blackened + 1;
@@ -334,7 +395,7 @@ impl Record {
 
     // The step that completes the cycle.
     fn closed(mut self) -> Record
-        requires { ⌜ self .steps < 20000000 ⌝ }
+        requires { ⌜ self .steps < manySteps ⌝ }
         ensures { λ r. ⌜ r ≡ closed self ⌝ }
     {
         self.took = self.steps + 1;
@@ -346,7 +407,8 @@ impl Record {
 
     // After Append i.
     pub fn after_append(self, i: u16) -> Record
-        requires { ⌜ (self .steps < 20000000) × (i < 4096) ⌝ }
+        requires { ⌜ self .steps < manySteps ⌝ }
+        requires { ⌜ i < mostNodes ⌝ }
         ensures { λ r. ⌜ r ≡ afterAppend self i ⌝ }
     {
         if i + 1 == self.m {
@@ -356,8 +418,16 @@ impl Record {
     }
 }
 
+// The one place where a refusal is made.
 impl Answer {
-    // Document 01's code: 0 where done.
+    // [Answers 3] Refused with a code, and a node.
+    pub fn refused(code: u8, node: u16) -> Answer
+        ensures { λ a. ⌜ a ≡ refused code node ⌝ }
+    {
+        Answer::Refused(code, node)
+    }
+
+    // [Answers 2] The code: 0 where done.
     pub fn code(self) -> u8
         ensures { λ c. ⌜ c ≡ codeOf self ⌝ }
     {

@@ -1,10 +1,10 @@
--- Any step from a sound state is one of three: a collector step after which the cycle goes on, one that completes it, or an editor's.
--- It leaves a sound state.
-use Prim.Native.Nat.{ℕ, suc, _+_}
+-- Any step from a sound state is one of three: a collector step after which the cycle goes on, one
+-- that completes it, or an editor's. It leaves a sound state.
+use Prim.Native.Nat.{ℕ}
 use mathlib.Core.Bool.{Bool, true, false}
-use mathlib.Core.Path.{_≡_, refl, sym}
-use mathlib.Core.List.{List, [], _∷_}
-use native.Mathlib.Omega.{arith}
+use mathlib.Core.Path.{_≡_, refl, sym, ap}
+use mathlib.Core.Option.{none}
+use mathlib.Core.List.{[], _∷_}
 use borrow.Author.Tests.{eqb-true}
 use Rattle.base.specs.Choice.{pick, first}
 use Rattle.base.proofs.Tests.{every-here, every-skip, every-last, split}
@@ -13,89 +13,117 @@ use Rattle.rules.specs.Check.{check}
 use Rattle.rules.specs.Collector.{collect}
 use Rattle.rules.specs.Steps.{step, codeOf}
 use Rattle.rules.specs.declared.Step.{Step}
-use Rattle.theory.proofs.Steps.{Tick, goes, ends, CStep}
+use Rattle.theory.proofs.Steps as S
+use S.{Tick, goes, ends, CStep}
 use Rattle.theory.proofs.Keep.{keep-editor}
-use Rattle.runs.specs.Runs.{after, collector, collectorSteps, lastAppend, completes}
+use Rattle.runs.specs.Runs.{after, collector, kind, firstAppend, lastAppend, completes, marks}
+use Rattle.runs.specs.Runs.{Count, going, closing, told}
 use Rattle.runs.specs.Demand.{Mild}
-use Rattle.runs.proofs.Picks.{if-yes, if-no}
+use Rattle.runs.proofs.Picks.{if-no}
+use Rattle.runs.proofs.Codes.{mild, mild-first}
+use Rattle.runs.proofs.Tables.{rows-kept}
 use Rattle.runs.proofs.Bill.{bill-edit}
-use Rattle.runs.proofs.Sound.{abs, top, Sound, sizes, checked}
-use Rattle.runs.proofs.Made.{act, blackens, Ticked, on, over, Made}
+use Rattle.runs.proofs.Sound.{abs, top, Sound, sizes, Ready, ready}
+use Rattle.runs.proofs.Made.{act, named, counts, Ticked, on, over, Made}
 use Rattle.runs.proofs.AppendStep.{collect-made, sound-made}
-use Rattle.runs.proofs.Edited.{Edited, refused, mild-first}
+use Rattle.runs.proofs.Edited.{Edited, refused, made-there}
 use Rattle.runs.proofs.LinkStep.{look-edited, link-edited}
 use Rattle.runs.proofs.TakeStep.{shade-edited, take-edited}
 
-pub record Collected (c : Step) (s : State) (tk : Tick) : Type 0 where
+pub record Collected (E : ℕ) (c : Step) (s : State) (tk : Tick) : Type 0 where
   pub kind : collector c ≡ true
-  pub made : CStep 2 (s .rec .m) (top s) (abs s) (abs (after c s)) (act (step c s .answer)) tk
+  pub made : CStep E (s .rec .m) (top s) (abs E s) (abs E (after c s)) (act (step c s .answer)) tk
   pub code : codeOf (step c s .answer) ≡ 0
+  pub named : named (step c s .answer) ≡ none
   pub nodes : after c s .rec .m ≡ s .rec .m
   pub slots : after c s .rec .r ≡ s .rec .r
-  pub sound : Sound (after c s)
+  pub sound : Sound E (after c s)
 
-pub data Stepped (c : Step) (s : State) : Type 0 where
-  goes-on : completes c s ≡ false → after c s .rec .steps ≡ suc (s .rec .steps) → after c s .rec .took ≡ s .rec .took
-      → after c s .rec .blackened ≡ s .rec .blackened + blackens (step c s .answer) → Collected c s goes → Stepped c s
-  closes : completes c s ≡ true → after c s .rec .steps ≡ 0 → after c s .rec .took ≡ suc (s .rec .steps) → Collected c s ends → Stepped c s
-  edits : completes c s ≡ false → collector c ≡ false → Edited s (step c s) → Stepped c s
+pub data Stepped (E : ℕ) (c : Step) (s : State) : Type 0 where
+  goes-on : completes c s ≡ false → counts (after c s .rec) ≡ going (told c s) (counts (s .rec))
+      → Collected E c s goes → Stepped E c s
+  closes : completes c s ≡ true → counts (after c s .rec) ≡ closing (counts (s .rec))
+      → Collected E c s ends → Stepped E c s
+  edits : completes c s ≡ false → collector c ≡ false
+      → Edited E s (kind E (s .rec .phase)) (step c s) → Stepped E c s
 
 collects-is : (c : Step) (s : State) → collector c ≡ true → step c s ≡ collect s
 unfolding step pick
 collects-is c s h = rw (eqb-true (c .kind) 3 h) refl
 
-edits-is : (c : Step) (s : State) → Sound s → collector c ≡ false → Edited s (step c s)
+pub edits-is : {E : ℕ} (c : Step) (s : State) {ph : S.Phase} → Ready E s ph → collector c ≡ false
+    → Edited E s ph (step c s)
 unfolding step
-edits-is c s g h = split (Edited s) _ _ _ (λ a. take-edited g _ _) (λ a. split (Edited s) _ _ _ (λ a. link-edited g _ _ _)
-    (λ a. split (Edited s) _ _ _ (λ a. shade-edited g) (λ a. if-no (Edited s) _ _ _ (sym h) (split (Edited s) _ _ _ (λ a. look-edited g _)
+edits-is {E} c s {ph} g h =
+    split (Edited E s ph) _ _ _ (λ a. take-edited g _ _)
+    (λ a. split (Edited E s ph) _ _ _ (λ a. link-edited g _ _ _)
+    (λ a. split (Edited E s ph) _ _ _ (λ a. shade-edited g)
+    (λ a. if-no (Edited E s ph) _ _ _ (sym h)
+    (split (Edited E s ph) _ _ _ (λ a. look-edited g _)
     (λ a. refused (g .fits) _ 0 unreadable)))))
   where
     unreadable : Mild (first (check s ∷ 10 ∷ []))
-    unreadable = mild-first (check s ∷ 10 ∷ []) (rw (← checked g) (omega arith), (omega arith, tt))
+    unreadable = mild-first (check s ∷ 10 ∷ []) (rw (← g .good) (mild refl), (mild refl, tt))
 
-pub stepped : (c : Step) (s : State) → Sound s → Stepped c s
-unfolding completes
-stepped c s g = go (collector c) refl
+pub stepped : {E : ℕ} (c : Step) (s : State) → Sound E s → Stepped E c s
+unfolding completes marks
+stepped {E} c s g = go (collector c) refl
   where
-    go : (b : Bool) → collector c ≡ b → Stepped c s
+    go : (b : Bool) → collector c ≡ b → Stepped E c s
     go true h = by (k .made) (k .ticked)
       where
-        k : Made s (s .rec .phase) (step c s)
+        k : Made E s (s .rec .phase) (step c s)
         k = rw (collects-is c s h) (collect-made g)
 
-        done : {t : Tick} → CStep 2 (s .rec .m) (top s) (abs s) (abs (after c s)) (act (step c s .answer)) t → Collected c s t
-        done d = record { kind = h; made = d; code = k .code; nodes = k .nodes; slots = k .slots; sound = sound-made g k }
+        done : {t : Tick} → CStep E (s .rec .m) (top s) (abs E s) (abs E (after c s))
+            (act (step c s .answer)) t → Collected E c s t
+        done d = record {
+          kind =
+              h;
+          made = d;
+          code = k .code;
+          named = k .named;
+          nodes = k .nodes;
+          slots = k .slots;
+          sound = sound-made g k;
+        }
 
-        test : (b : Bool) → lastAppend (s .rec .m) (s .rec .phase) ≡ b → completes c s ≡ b
-        test b e = sym (every-skip _ _ _ (sym h) (every-last _ _ (sym e)))
+        test : (b : Bool) → lastAppend (s .rec .m) (kind E (s .rec .phase)) ≡ b → completes c s ≡ b
+        test b e = rw (g .rows .count) (sym (every-skip _ _ _ (sym h) (every-last _ _ (sym e))))
 
-        by : {t : Tick} → CStep 2 (s .rec .m) (top s) (abs s) (abs (after c s)) (act (step c s .answer)) t
-            → Ticked (s .rec) (after c s .rec) (s .rec .phase) (step c s .answer) t → Stepped c s
-        by d (on e a b x) = goes-on (test false e) a b x (done d)
-        by d (over e a b) = closes (test true e) a b (done d)
-    go false h = edits (sym (every-here _ _ (sym h))) h (edits-is c s g h)
+        marks-is : marks c s ≡ firstAppend (kind E (after c s .rec .phase))
+        marks-is = rw (g .rows .count) (sym (every-skip _ _ _ (sym h) (every-last _ _ refl)))
 
-sound-edited : {s : State} {o : Outcome} → Sound s → Edited s o → Sound (o .state)
-sound-edited {s} g e = record {
+        by : {t : Tick} → CStep E (s .rec .m) (top s) (abs E s) (abs E (after c s))
+            (act (step c s .answer)) t
+            → Ticked (s .rec) (after c s .rec) (kind E (s .rec .phase))
+            (kind E (after c s .rec .phase)) (step c s .answer) t → Stepped E c s
+        by d (on e a) = goes-on (test false e) (rw marks-is a) (done d)
+        by d (over e a) = closes (test true e) a (done d)
+    go false h = edits (sym (every-here _ _ (sym h))) h (edits-is c s (ready g) h)
+
+sound-edited : {E : ℕ} {s : State} {o : Outcome} → Sound E s → Edited E s (kind E (s .rec .phase)) o
+    → Sound E (o .state)
+sound-edited {E} {s} g e = record {
+  rows = rw (e .same .m) (rows-kept (e .lengths) (g .rows));
   fits = e .fits;
-  inv = rw (e .same .m, e .same .r) (keep-editor (sizes (g .fits)) (e .made) (g .inv));
-  bill = rw (e .same .m, e .same .r, e .same .phase, e .same .steps, e .same .blackened)
-      (bill-edit (sizes (g .fits)) (e .made) (g .inv) {ph = s .rec .phase} refl (g .bill));
+  inv = rw (e .same .m, e .same .r) (keep-editor (sizes (g .fits)) (made-there e) (g .inv));
+  bill =
+      rw (
+        e .same .m,
+        e .same .r,
+        e .same .phase,
+        ap (λ (n : Count). n .since) (e .same .counts),
+        ap
+            (λ (n : Count). n .blackened) (e .same .counts),
+      )
+      (bill-edit (sizes (g .fits)) (made-there e) (g .inv) refl (g .bill));
 }
 
-pub sound-step : (c : Step) (s : State) → Sound s → Sound (after c s)
-sound-step c s g = go (stepped c s g)
+pub sound-step : {E : ℕ} (c : Step) (s : State) → Sound E s → Sound E (after c s)
+sound-step {E} c s g = go (stepped c s g)
   where
-    go : Stepped c s → Sound (after c s)
-    go (goes-on e a b x k) = k .sound
-    go (closes e a b k) = k .sound
+    go : Stepped E c s → Sound E (after c s)
+    go (goes-on e a k) = k .sound
+    go (closes e a k) = k .sound
     go (edits e h k) = sound-edited g k
-
--- one collector step more in a list, or none
-pub one-more : (c : Step) (cs : List Step) → collector c ≡ true → collectorSteps (c ∷ cs) ≡ suc (collectorSteps cs)
-unfolding collectorSteps
-one-more c cs h = if-yes (λ (n : ℕ). n + collectorSteps cs ≡ suc (collectorSteps cs)) _ _ _ (sym h) (omega arith)
-
-pub no-more : (c : Step) (cs : List Step) → collector c ≡ false → collectorSteps (c ∷ cs) ≡ collectorSteps cs
-unfolding collectorSteps
-no-more c cs h = if-no (λ (n : ℕ). n + collectorSteps cs ≡ collectorSteps cs) _ _ _ (sym h) (omega arith)

@@ -1,80 +1,163 @@
--- The record's steps and took are what is counted along the run, and the B-th collector step since the cycle began, at the latest, completes it.
-use Prim.Native.Nat.{ℕ, _+_, _≤_}
-use mathlib.Core.Bool.{false}
-use mathlib.Core.Path.{_≡_, refl, sym, _∙_}
+-- The collector is a machine whose steps are the theory's: so its counts are those of the run, a
+-- cycle takes at most B collector steps, and garbage is appended within 3 × B.
+use Prim.Native.Nat.{ℕ, suc, _+_, _*_, _≤_, _<_}
+use mathlib.Core.Path.{_≡_, refl, sym, ap, _∙_, subst, subst₂}
 use mathlib.Core.List.{List, [], _∷_}
 use native.Mathlib.Omega.{arith}
-use Rattle.base.specs.Choice.{pick}
-use Rattle.rules.specs.Table.{State}
+use Rattle.rules.specs.Table.{State, edge}
 use Rattle.rules.specs.Check.{bound}
-use Rattle.rules.specs.Steps.{run}
+use Rattle.rules.specs.Steps.{step, run}
 use Rattle.rules.specs.declared.Step.{Step}
-use Rattle.runs.specs.Runs.{after, now, later, collector, collectorSteps, completes, Completes, Count, counted, count}
-use Rattle.runs.proofs.Picks.{if-yes, if-no}
-use Rattle.runs.proofs.Sound.{Sound, cycle-goes}
-use Rattle.runs.proofs.AnyStep.{Stepped, goes-on, closes, edits, stepped, sound-step, one-more, no-more}
+use Rattle.rules.specs.declared.Answer.{Answer}
+use Rattle.rules.specs.declared.Answer.the-variants.{Started, Named, Linked, Taken, Shaded, Looked}
+use Rattle.rules.specs.declared.Answer.the-variants.{Blackened, Whitened, Appended, Refused}
+use Rattle.theory.specs.Reach.{Garbage}
+use Rattle.theory.proofs.Steps.{appends, other, Tick, CStep, EStep}
+use Rattle.theory.proofs.Invariant.{Sizes, Inv}
+use Rattle.runs.specs.Runs.{Some, now, later, after, collectorSteps, Completes, Appends}
+use Rattle.runs.specs.Runs.{Count, counted, told, count}
+use Rattle.runs.proofs.Sound.{abs, Sound, sizes, cycle-goes}
+use Rattle.runs.proofs.Made.{act, counts}
+use Rattle.runs.proofs.Edited.{made-there}
+use Rattle.runs.proofs.AnyStep as A
+use A.{Collected, stepped, sound-step}
+use Rattle.runs.proofs.Machine as M
+use M.{Machine, Stepped, goes-on, closes, edits, Runs, counted-on, counted-over, counted-not}
+use M.{carried-step, ends-soon, appended-soon}
 
--- nothing is counted yet
-abbrev pub begun : Count
-begun = record { since = 0; took = 0 }
+abbrev machine : ℕ → Machine State
+machine E = record {
+  after = after;
+  told = told;
+  act = λ c s. act (step c s .answer);
+  abs = abs E;
+  counts = λ s. counts (s .rec);
+}
 
--- what is carried along a run: the state is sound, M and R are Fresh's, and the record's counts are those counted
-pub record Carried (m r : ℕ) (n : Count) (s : State) : Type 0 where
-  pub sound : Sound s
+other≢appends : {x : ℕ} → other ≡ appends x → ⊥
+other≢appends q = let z : _≡_ {A = ℕ} 0 1 = cc in omega arith
+
+-- only the answer Appended is an appending
+pub is-appended : (x : ℕ) (a : Answer) → act a ≡ appends x → a ≡ Appended x
+is-appended x (Started n) q = absurd (other≢appends q)
+is-appended x (Named n) q = absurd (other≢appends q)
+is-appended x (Linked n) q = absurd (other≢appends q)
+is-appended x (Taken n) q = absurd (other≢appends q)
+is-appended x (Shaded n) q = absurd (other≢appends q)
+is-appended x (Looked n) q = absurd (other≢appends q)
+is-appended x (Blackened n) q = absurd (other≢appends q)
+is-appended x (Whitened n) q = absurd (other≢appends q)
+is-appended x (Appended n) q = let z : n ≡ x = cc in ap Appended z
+is-appended x (Refused code n) q = absurd (other≢appends q)
+
+some-appended : {x : ℕ} {cs : List Step} {s : State}
+    → Some after (λ c s. act (step c s .answer) ≡ appends x) cs s → Appends x cs s
+some-appended {x} (now {c = c} {s = s} q) = now (is-appended x (step c s .answer) q)
+some-appended (later k) = later (some-appended k)
+
+-- a sound state with these M and R
+record Held (E m r : ℕ) (s : State) : Type 0 where
+  sound : Sound E s
+  nodes : s .rec .m ≡ m
+  slots : s .rec .r ≡ r
+
+-- what is carried along a run: the state is sound, M and R are the start's, and the record's counts
+-- are those counted
+pub record Carried (E m r : ℕ) (n : Count) (s : State) : Type 0 where
+  pub sound : Sound E s
   pub nodes : s .rec .m ≡ m
   pub slots : s .rec .r ≡ r
-  pub steps : s .rec .steps ≡ n .since
-  pub took : s .rec .took ≡ n .took
+  pub counts : counts (s .rec) ≡ n
 
-module _ {m r : ℕ} where
-  carried-step : (c : Step) (s : State) (n : Count) → Carried m r n s → Carried m r (counted c s n) (after c s)
-  unfolding counted
-  carried-step c s n v = go (stepped c s (v .sound))
+module _ {E m r : ℕ} where
+  turn : (c : Step) (s : State) → Held E m r s → Stepped (machine E) E m (suc (suc r)) c s
+  turn c s v = go (stepped c s (v .sound))
     where
-      same : (d : ℕ) → pick (collector c) 1 0 ≡ d → completes c s ≡ false → after c s .rec .m ≡ s .rec .m → after c s .rec .r ≡ s .rec .r
-          → after c s .rec .steps ≡ s .rec .steps + d → after c s .rec .took ≡ s .rec .took → Carried m r (counted c s n) (after c s)
-      same d p e qm qr qs qt = if-no (λ (x : Count). Carried m r x (after c s)) _ _ _ (sym e) record {
-        sound = sound-step c s (v .sound);
-        nodes = qm ∙ v .nodes;
-        slots = qr ∙ v .slots;
-        steps = omega (arith, p, qs, v .steps);
-        took = qt ∙ v .took;
-      }
+      there : {t : Tick} → Collected E c s t
+          → CStep E m (suc (suc r)) (abs E s) (abs E (after c s)) (act (step c s .answer)) t
+      there {t} k =
+          subst₂ (λ m r. CStep E m (suc (suc r)) (abs E s) (abs E (after c s))
+          (act (step c s .answer)) t) (v .nodes) (v .slots) (k .made)
 
-      go : Stepped c s → Carried m r (counted c s n) (after c s)
-      go (goes-on e a b x k) = same 1 (if-yes (λ (x : ℕ). x ≡ 1) _ _ _ (sym (k .kind)) refl) e (k .nodes) (k .slots) (omega arith) b
-      go (closes e a b k) = if-yes (λ (x : Count). Carried m r x (after c s)) _ _ _ (sym e) record {
-        sound = k .sound;
-        nodes = k .nodes ∙ v .nodes;
-        slots = k .slots ∙ v .slots;
-        steps = a;
-        took = omega (arith, b, v .steps);
-      }
-      go (edits e h k) = same 0 (if-no (λ (x : ℕ). x ≡ 0) _ _ _ (sym h) refl) e (k .same .m) (k .same .r) (omega (arith, k .same .steps)) (k .same .took)
+      go : A.Stepped E c s → Stepped (machine E) E m (suc (suc r)) c s
+      go (A.goes-on e a k) = goes-on (k .kind) e (there k)
+      go (A.closes e a k) = closes (k .kind) e (there k)
+      go (A.edits e h k) = edits h e (subst
+          (λ r. EStep E (suc (suc r)) (k .deed) (abs E s) (abs E (after c s))) (v .slots)
+          (made-there k))
 
-  pub carried-run : (cs : List Step) (s : State) (n : Count) → Carried m r n s → Carried m r (count cs s n) (run cs s)
+  tally : (c : Step) (s : State) → Held E m r s → counts (after c s .rec)
+      ≡ counted (told c s) c (counts (s .rec))
+  tally c s v = go (stepped c s (v .sound))
+    where
+      go : A.Stepped E c s → counts (after c s .rec) ≡ counted (told c s) c (counts (s .rec))
+      go (A.goes-on e a k) = a ∙ sym (counted-on _ c _ e (k .kind))
+      go (A.closes e a k) = a ∙ sym (counted-over _ c _ e)
+      go (A.edits e h k) = k .same .counts ∙ sym (counted-not _ c _ e h)
+
+  held-step : (c : Step) (s : State) → Held E m r s → Held E m r (after c s)
+  held-step c s v = record {
+    sound =
+        sound-step c s (v .sound);
+    nodes = go (stepped c s (v .sound)) .0;
+    slots = go
+        (stepped c s (v .sound)) .1;
+  }
+    where
+      go : A.Stepped E c s → (after c s .rec .m ≡ m) × (after c s .rec .r ≡ r)
+      go (A.goes-on e a k) = (k .nodes ∙ v .nodes, k .slots ∙ v .slots)
+      go (A.closes e a k) = (k .nodes ∙ v .nodes, k .slots ∙ v .slots)
+      go (A.edits e h k) = (k .same .m ∙ v .nodes, k .same .r ∙ v .slots)
+
+  runs : {s : State} → Held E m r s → Runs (machine E) E m (suc (suc r)) (bound E m r) (Held E m r)
+  runs {s} h = record {
+    sizes = subst₂ (λ m r. Sizes E m (suc (suc r))) (h .nodes) (h .slots) (sizes (h .sound .fits));
+    inv =
+        λ s v. subst₂ (λ m r. Inv E m (suc (suc r)) (abs E s)) (v .nodes) (v .slots)
+        (v .sound .inv);
+    below =
+        λ s v. subst₂ (λ m r. s .rec .steps < bound E m r) (v .nodes) (v .slots)
+        (cycle-goes (v .sound));
+    stepped = turn;
+    sound = held-step;
+    counts = tally;
+  }
+
+  held : {n : Count} {s : State} → Carried E m r n s → Held E m r s
+  held v = record { sound = v .sound; nodes = v .nodes; slots = v .slots }
+
+  pub carried-run : (cs : List Step) (s : State) (n : Count) → Carried E m r n s
+      → Carried E m r (count cs s n) (run cs s)
   unfolding run
   carried-run [] s n v = v
-  carried-run (c ∷ cs) s n v = carried-run cs (after c s) (counted c s n) (carried-step c s n v)
+  carried-run (c ∷ cs) s n v =
+      let k = carried-step (runs (held v)) c s n (record { sound = held v; counts = v .counts }) in
+      carried-run cs (after c s) (counted (told c s) c n)
+      (record {
+        sound = k .sound .sound;
+        nodes = k .sound .nodes;
+        slots = k .sound .slots;
+        counts =
+            k .counts;
+      })
+
+  pub ends-within : {n : Count} {s : State} → Carried E m r n s → (cs : List Step)
+      → bound E m r ≤ n .since + collectorSteps cs → Completes cs s
+  ends-within {s = s} v cs l =
+      ends-soon (runs (held v)) cs s (held v)
+      (omega (arith, ap (λ (n : Count). n .since) (v .counts)))
+
+  pub appended-within : {n : Count} {s : State} → Carried E m r n s → (x : ℕ) → x < m
+      → Garbage E (suc (suc r)) (edge s) x → (cs : List Step)
+      → 3 * bound E m r ≤ collectorSteps cs → Appends x cs s
+  appended-within {s = s} v x hx u cs l =
+      some-appended (appended-soon (runs (held v)) x hx cs s (held v) u l)
 
 -- a sound state stays so, with its M and R, whatever was counted before
-pub carried-from : (cs : List Step) (s : State) → Sound s → (n : Count) × Carried (s .rec .m) (s .rec .r) n (run cs s)
-carried-from cs s g =
-    let n : Count = record { since = s .rec .steps; took = s .rec .took } in
-    (count cs s n, carried-run cs s n (record { sound = g; nodes = refl; slots = refl; steps = refl; took = refl }))
-
--- the steps that are left of B complete the cycle
-ends-soon : {m r : ℕ} (cs : List Step) (s : State) → Sound s → s .rec .m ≡ m → s .rec .r ≡ r
-    → bound m r ≤ s .rec .steps + collectorSteps cs → Completes cs s
-unfolding collectorSteps
-ends-soon [] s g qm qr l = absurd (omega (arith, l, rw (qm, qr) at (cycle-goes g)))
-ends-soon {m} {r} (c ∷ cs) s g qm qr l = go (stepped c s g) (ends-soon cs (after c s) (sound-step c s g))
-  where
-    go : Stepped c s → (after c s .rec .m ≡ m → after c s .rec .r ≡ r → bound m r ≤ after c s .rec .steps + collectorSteps cs → Completes cs (after c s))
-        → Completes (c ∷ cs) s
-    go (goes-on e a b x k) f = later (f (k .nodes ∙ qm) (k .slots ∙ qr) (omega (arith, l, one-more c cs (k .kind), a)))
-    go (closes e a b k) f = now e
-    go (edits e h k) f = later (f (k .same .m ∙ qm) (k .same .r ∙ qr) (omega (arith, l, no-more c cs h, k .same .steps)))
-
-pub ends-within : {m r : ℕ} {n : Count} {s : State} → Carried m r n s → (cs : List Step) → bound m r ≤ n .since + collectorSteps cs → Completes cs s
-ends-within {s = s} v cs l = ends-soon cs s (v .sound) (v .nodes) (v .slots) (omega (arith, v .steps))
+pub carried-from : {E : ℕ} (cs : List Step) (s : State) → Sound E s
+    → (n : Count) × Carried E (s .rec .m) (s .rec .r) n (run cs s)
+carried-from cs s g = (
+  count cs s (counts (s .rec)),
+  carried-run cs s _
+      (record { sound = g; nodes = refl; slots = refl; counts = refl }),
+)

@@ -1,5 +1,5 @@
--- What a cycle appends: exactly the nodes that were white when its appending began, each once.
--- And what was garbage when one cycle's appending began has been appended by the end of the next.
+-- What a cycle appends: each node once that is white at Append 0, and no other. And a node that is
+-- garbage at Append 0 is appended in this cycle or in the next one.
 use Prim.Native.Nat.{ℕ, suc, _<_}
 use mathlib.Core.Bool.{true≢false}
 use mathlib.Core.Path.{_≡_, refl, sym, ap, subst₂, _∙_}
@@ -9,18 +9,18 @@ use native.Mathlib.Omega.{arith}
 use Rattle.rules.specs.Table.{State, colourOf, white}
 use Rattle.rules.specs.Steps.{step, run}
 use Rattle.rules.specs.declared.Step.{Step}
-use Rattle.rules.specs.declared.Phase.{Phase}
-use Rattle.rules.specs.declared.Phase.the-variants.{Roots, Scan, Left, Right, Black, Append}
+use Rattle.rules.specs.declared.Phase.the-variants.{Roots, Append}
 use Rattle.theory.specs.Free.{Mem}
 use Rattle.theory.proofs.Steps as S
-use S.{Act, other, Tick, goes, ends, CStep, root, last-root, look, find, no-gray, edge, blacken, whiten, append}
+use S.{Act, other, Tick, goes, ends, CStep, root, last-root, look, find, no-gray, edge, blacken}
+use S.{whiten, append}
 use Rattle.theory.proofs.Cycle as C
 use C.{Rest}
 use Rattle.theory.proofs.Sweep.{Exactly, appends-white}
-use Rattle.runs.specs.Runs.{after}
+use Rattle.runs.specs.Runs.{after, kind}
 use Rattle.runs.specs.Demand.{RootReaches}
-use Rattle.runs.proofs.Tables.{reach-here}
-use Rattle.runs.proofs.Bill.{kind}
+use Rattle.runs.proofs.Tables.{reach-from}
+use Rattle.runs.proofs.Phases.{view, is-append}
 use Rattle.runs.proofs.Sound.{abs, Sound, sizes}
 use Rattle.runs.proofs.Made.{act}
 use Rattle.runs.proofs.AnyStep.{Stepped, goes-on, closes, edits, stepped, sound-step}
@@ -28,18 +28,21 @@ use Rattle.runs.proofs.Counting.{carried-from}
 use Rattle.runs.proofs.Cycles.{Reached, sound-reached, ToEnd, last, more, appended, rest-of}
 
 -- from the state in which the appending begins
-appends-exactly : {cs : List Step} {s : State} → ToEnd cs s → Sound s → s .rec .phase ≡ Append 0
+appends-exactly : {E : ℕ} {cs : List Step} {s : State} → ToEnd cs s → Sound E s → s .rec .phase
+    ≡ Append 0
     → Exactly (λ x. (x < s .rec .m) × (colourOf s x ≡ white)) (appended cs s)
-appends-exactly t g q = appends-white (sizes (g .fits)) (g .inv) (ap kind q) (rest-of t g)
+appends-exactly {E} t g q = appends-white (sizes (g .fits)) (g .inv) (ap (kind E) q) (rest-of t g)
 
 -- before the appending
 data Early : S.Phase → Type 0 where
   rooting : {i : ℕ} → Early (S.Rooting i)
   seeking : Early S.Seeking
   working : {i j : ℕ} → Early (S.Working i j)
+  holding : {i j n : ℕ} → Early (S.Holding i j n)
 
 -- a step then appends nothing and ends no cycle
-early-next : {m t : ℕ} {σ σ′ : S.State} {a : Act} {tk : Tick} → CStep 2 m t σ σ′ a tk → Early (S.phase σ)
+early-next : {E m t : ℕ} {σ σ′ : S.State} {a : Act} {tk : Tick} → CStep E m t σ σ′ a tk
+    → Early (S.phase σ)
     → (a ≡ other) × (tk ≡ goes) × (Early (S.phase σ′) ⊎ (S.phase σ′ ≡ S.Appending 0))
 early-next (root l h) k = (refl, refl, inl rooting)
 early-next (last-root q h) k = (refl, refl, inl seeking)
@@ -47,29 +50,17 @@ early-next look k = (refl, refl, inl seeking)
 early-next (find g) k = (refl, refl, inl working)
 early-next (no-gray g) k = (refl, refl, inr refl)
 early-next (edge l h) k = (refl, refl, inl working)
+early-next (S.read l) k = (refl, refl, inl holding)
+early-next (S.shade h) k = (refl, refl, inl working)
 early-next (blacken u) k = (refl, refl, inl seeking)
 early-next (whiten g u f) k = elim k [ ]
 early-next (append g u f) k = elim k [ ]
 
-early-goes : {m t : ℕ} {σ σ′ : S.State} {a : Act} → CStep 2 m t σ σ′ a ends → Early (S.phase σ) → ⊥
+early-goes : {E m t : ℕ} {σ σ′ : S.State} {a : Act} → CStep E m t σ σ′ a ends → Early (S.phase σ)
+    → ⊥
 early-goes d k =
     let q = early-next d k .1 in
     absurd (let z : _≡_ {A = ℕ} 0 1 = cc in omega arith)
-
--- how far the appending is, 0 before it
-abbrev swept : S.Phase → ℕ
-swept (S.Rooting i) = 0
-swept S.Seeking = 0
-swept (S.Working i j) = 0
-swept (S.Appending i) = suc i
-
-appends-first : (ph : Phase) → kind ph ≡ S.Appending 0 → ph ≡ Append 0
-appends-first (Roots i) q = absurd (omega (arith, ap swept q))
-appends-first (Scan i k) q = absurd (omega (arith, ap swept q))
-appends-first (Left i) q = absurd (omega (arith, ap swept q))
-appends-first (Right i) q = absurd (omega (arith, ap swept q))
-appends-first (Black i) q = absurd (omega (arith, ap swept q))
-appends-first (Append i) q = let z : i ≡ 0 = omega (arith, ap swept q) in ap Append z
 
 -- a cycle's steps up to its appending, which append nothing, and those from there on
 pub record Parts (cs : List Step) (s : State) : Type 0 where
@@ -80,15 +71,16 @@ pub record Parts (cs : List Step) (s : State) : Type 0 where
   pub to-end : ToEnd rest (run before s)
   pub nothing : appended cs s ≡ appended rest (run before s)
 
-parts : {cs : List Step} {s : State} → ToEnd cs s → Sound s → Early (kind (s .rec .phase)) → Parts cs s
+parts : {E : ℕ} {cs : List Step} {s : State} → ToEnd cs s → Sound E s
+    → Early (kind E (s .rec .phase)) → Parts cs s
 unfolding run
-parts (last {c = c} {s = s} e) g k = go (stepped c s g)
+parts {E} (last {c = c} {s = s} e) g k = go (stepped c s g)
   where
-    go : Stepped c s → Parts (c ∷ []) s
-    go (goes-on e₁ a b x d) = absurd (true≢false (sym e ∙ e₁))
-    go (closes e₁ a b d) = absurd (early-goes (d .made) k)
+    go : Stepped E c s → Parts (c ∷ []) s
+    go (goes-on e₁ a d) = absurd (true≢false (sym e ∙ e₁))
+    go (closes e₁ a d) = absurd (early-goes (d .made) k)
     go (edits e₁ h d) = absurd (true≢false (sym e ∙ e₁))
-parts (more {c = c} {cs = cs} {s = s} e t) g k = go (stepped c s g) (parts t (sound-step c s g))
+parts {E} (more {c = c} {cs = cs} {s = s} e t) g k = go (stepped c s g) (parts t (sound-step c s g))
   where
     on-to : act (step c s .answer) ≡ other → Parts cs (after c s) → Parts (c ∷ cs) s
     on-to q p = record {
@@ -100,47 +92,57 @@ parts (more {c = c} {cs = cs} {s = s} e t) g k = go (stepped c s g) (parts t (so
       nothing = rw q (p .nothing);
     }
 
-    go : Stepped c s → (Early (kind (after c s .rec .phase)) → Parts cs (after c s)) → Parts (c ∷ cs) s
-    go (goes-on e₁ a b x d) f = by (early-next (d .made) k .0) (early-next (d .made) k .2)
+    go : Stepped E c s → (Early (kind E (after c s .rec .phase)) → Parts cs (after c s))
+        → Parts (c ∷ cs) s
+    go (goes-on e₁ a d) f = by (early-next (d .made) k .0) (early-next (d .made) k .2)
       where
-        by : act (step c s .answer) ≡ other → Early (kind (after c s .rec .phase)) ⊎ (kind (after c s .rec .phase) ≡ S.Appending 0) → Parts (c ∷ cs) s
+        by : act (step c s .answer) ≡ other
+            → Early (kind E (after c s .rec .phase)) ⊎
+            (kind E (after c s .rec .phase) ≡ S.Appending 0) → Parts (c ∷ cs) s
         by n (inl y) = on-to n (f y)
         by n (inr q) = on-to n record {
           before = [];
           rest = cs;
           all = refl;
-          begins = appends-first (after c s .rec .phase) q;
+          begins = is-append (view (g .fits .few) (after c s .rec .phase)) q;
           to-end = t;
           nothing = refl;
         }
-    go (closes e₁ a b d) f = absurd (true≢false (sym e₁ ∙ e))
+    go (closes e₁ a d) f = absurd (true≢false (sym e₁ ∙ e))
     go (edits e₁ h d) f = on-to (d .appends) (f (rw (d .same .phase) k))
 
 -- a cycle begins in Roots 0
-pub cycle-appends : {m r : ℕ} {cs : List Step} {s : State} → Reached m r s → s .rec .phase ≡ Roots 0 → ToEnd cs s
-    → (p : Parts cs s) × Exactly (λ x. (x < m) × (colourOf (run (p .before) s) x ≡ white)) (appended cs s)
-cycle-appends {m} {cs = cs} {s} k q t =
+pub cycle-appends : {E m r : ℕ} {cs : List Step} {s : State} → Reached E m r s → s .rec .phase
+    ≡ Roots 0 → ToEnd cs s
+    → (p : Parts cs s) × Exactly (λ x. (x < m) × (colourOf (run (p .before) s) x ≡ white))
+    (appended cs s)
+cycle-appends {E} {m} {cs = cs} {s} k q t =
     let c = carried-from (p .before) s g in (
       p,
-      subst₂ (λ n xs. Exactly (λ x. (x < n) × (colourOf (run (p .before) s) x ≡ white)) xs) (c .1 .nodes ∙ sound-reached k .1) (sym (p .nothing))
+      subst₂ (λ n xs. Exactly (λ x. (x < n) × (colourOf (run (p .before) s) x ≡ white)) xs)
+          (c .1 .nodes ∙ sound-reached k .1) (sym (p .nothing))
           (appends-exactly (p .to-end) (c .1 .sound) (p .begins)),
     )
   where
-    g : Sound s
+    g : Sound E s
     g = sound-reached k .0
 
     p : Parts cs s
     p = parts t g (rw q rooting)
 
 -- garbage when an appending begins
-pub garbage-by-next : {m r x : ℕ} {cs ds : List Step} {s : State} → Reached m r s → s .rec .phase ≡ Append 0 → x < m → ¬ RootReaches s x → ToEnd cs s
+pub garbage-by-next : {E m r x : ℕ} {cs ds : List Step} {s : State} → Reached E m r s
+    → s .rec .phase ≡ Append 0 → x < m → ¬ RootReaches s x → ToEnd cs s
     → ToEnd ds (run cs s) → Mem x (appended cs s) ⊎ Mem x (appended ds (run cs s))
-garbage-by-next {cs = cs} {ds} {s} k q hx u t t₁ =
+garbage-by-next {E} {cs = cs} {ds} {s} k q hx u t t₁ =
     let c = carried-from cs s g in
-    C.appended-by-next (sizes (g .fits)) (g .inv) (ap kind q) (omega (arith, sound-reached k .1)) (λ a. u (reach-here s (λ n h. omega arith) a))
+    C.appended-by-next (sizes (g .fits)) (g .inv) (ap (kind E) q)
+    (omega (arith, sound-reached k .1))
+    (λ a. u (rw (g .rows .count) (reach-from (λ n h. omega arith) a)))
     (rest-of t g)
-    (subst₂ (λ m r. Rest 2 m (suc (suc r)) (abs (run cs s)) (appended ds (run cs s)) (abs (run ds (run cs s)))) (c .1 .nodes) (c .1 .slots)
+    (subst₂ (λ m r. Rest E m (suc (suc r)) (abs E (run cs s)) (appended ds (run cs s))
+    (abs E (run ds (run cs s)))) (c .1 .nodes) (c .1 .slots)
     (rest-of t₁ (c .1 .sound)))
   where
-    g : Sound s
+    g : Sound E s
     g = sound-reached k .0

@@ -1,80 +1,108 @@
--- A cycle that blackens b nodes takes at most b × (M + 3) + 2 × M + R + 2 collector steps, whatever the editor does:
--- each blackening costs a round of M looks, a step for each of the two edges and its own; the roots, a last round and the appending come to the rest.
+-- A cycle that blackens b nodes takes at most b × (M + E + 1) + 2 × M + R + 2 collector steps,
+-- whatever the editor does: each blackening costs a round of M looks, a step for each of the E
+-- edges and its own; the roots, a last round and the appending come to the rest.
 use Prim.Native.Nat.{ℕ, suc, _+_, _*_, _≤_}
-use mathlib.Core.Bool.{true, true≢false}
-use mathlib.Core.Path.{_≡_, refl, sym, _∙_}
+use mathlib.Core.Bool.{Bool, true, false, true≢false}
+use mathlib.Core.Path.{_≡_, refl, sym, ap, _∙_}
 use mathlib.Core.List.{List, [], _∷_}
 use mathlib.Core.Option.{Option}
 use native.Mathlib.Nat.{mul-le-mul-right}
 use native.Mathlib.Omega.{arith}
+use Rattle.base.specs.Choice.{pick}
 use Rattle.base.proofs.Tests.{each}
 use Rattle.rules.specs.Table.{State}
+use Rattle.rules.specs.Steps.{step}
 use Rattle.rules.specs.declared.Step.{Step}
 use Rattle.rules.specs.declared.Phase.{Phase}
-use Rattle.rules.specs.declared.Phase.the-variants.{Roots, Scan, Left, Right, Black, Append}
+use Rattle.rules.specs.declared.Phase.the-variants.{Roots}
 use Rattle.theory.specs.Reach.{Graph}
+use Rattle.theory.specs.Phase as K
 use Rattle.theory.proofs.Update.{Colours}
 use Rattle.theory.proofs.Invariant.{InPhase, at-append}
-use Rattle.runs.specs.Runs.{after, collectorSteps, lastAppend, completes}
-use Rattle.runs.proofs.Bill.{kind, Bill, of-roots, paid-up}
+use Rattle.runs.specs.Runs.{after, collectorSteps, kind, appendAt, lastAppend, completes}
+use Rattle.runs.specs.Runs.{blackens, Count}
+use Rattle.runs.proofs.Bill.{Bill, of-roots, of-scan, of-working, of-append}
 use Rattle.runs.proofs.Sound.{Sound}
-use Rattle.runs.proofs.Made.{blackens}
-use Rattle.runs.proofs.AnyStep.{Stepped, goes-on, closes, edits, stepped, sound-step, one-more, no-more}
+use Rattle.runs.proofs.AnyStep.{Stepped, goes-on, closes, edits, stepped, sound-step}
+use Rattle.runs.proofs.Machine.{one-more, no-more}
 use Rattle.runs.proofs.Cycles.{Reached, sound-reached, ToEnd, last, more, blackenings}
 
 -- the most that a cycle takes which blackens b nodes
-abbrev pub tight : ℕ → ℕ → ℕ → ℕ
-tight m r b = b * (m + 3) + 2 * m + r + 2
+abbrev pub tight : ℕ → ℕ → ℕ → ℕ → ℕ
+tight E m r b = b * (m + suc E) + 2 * m + r + 2
 
-at-last : (c : Step) (s : State) → completes c s ≡ true → lastAppend (s .rec .m) (s .rec .phase) ≡ true
+at-last : {E : ℕ} (c : Step) (s : State) → Sound E s → completes c s ≡ true
+    → lastAppend (s .rec .m) (kind E (s .rec .phase)) ≡ true
 unfolding completes
-at-last c s e = each _ (sym e) .1 .0
+at-last c s g e = rw (g .rows .count) at (each _ (sym e) .1 .0)
 
 -- the bill at the step that completes a cycle
-last-paid : {m r : ℕ} {g : Graph} {c : Colours} {o : Option ℕ} {n b : ℕ} (ph : Phase) → lastAppend m ph ≡ true → InPhase 2 m (suc (suc r)) g c o (kind ph)
-    → Bill m r c n b ph → n + 1 ≤ tight m r b
-unfolding lastAppend
-last-paid (Roots i) e v w = absurd (true≢false (sym e))
-last-paid (Scan i k) e v w = absurd (true≢false (sym e))
-last-paid (Left i) e v w = absurd (true≢false (sym e))
-last-paid (Right i) e v w = absurd (true≢false (sym e))
-last-paid (Black i) e v w = absurd (true≢false (sym e))
-last-paid (Append i) e v w = paid-up w (at-append v .pos)
+last-paid : {E m r : ℕ} {g : Graph} {c : Colours} {o : Option ℕ} {n b : ℕ} {ph : Phase}
+    {k : K.Phase} → lastAppend m k ≡ true
+    → InPhase E m (suc (suc r)) g c o k → Bill E m r c n b ph k → n + 1 ≤ tight E m r b
+unfolding appendAt
+last-paid e v (of-roots q z) = absurd (true≢false (sym e))
+last-paid e v (of-scan w) = absurd (true≢false (sym e))
+last-paid e v (of-working w) = absurd (true≢false (sym e))
+last-paid e v (of-append w) = omega (arith, w .paid, at-append v .pos)
+
+one-black : (t : Bool) (b k : ℕ) → pick t (b + 1) b + k ≡ b + (pick t 1 0 + k)
+unfolding pick
+one-black true b k = omega arith
+one-black false b k = omega arith
 
 -- the rest of a cycle, with what was paid before it
-rest-cost : {m r : ℕ} {cs : List Step} {s : State} → ToEnd cs s → Sound s → s .rec .m ≡ m → s .rec .r ≡ r
-    → s .rec .steps + collectorSteps cs ≤ tight m r (s .rec .blackened + blackenings cs s)
-unfolding collectorSteps
-rest-cost {m} {r} (last {c = c} {s = s} e) g qm qr = go (stepped c s g)
+rest-cost : {E m r : ℕ} {cs : List Step} {s : State} → ToEnd cs s → Sound E s → s .rec .m ≡ m
+    → s .rec .r ≡ r
+    → s .rec .steps + collectorSteps cs ≤ tight E m r (s .rec .blackened + blackenings cs s)
+unfolding collectorSteps pick
+rest-cost {E} {m} {r} (last {c = c} {s = s} e) g qm qr = go (stepped c s g)
   where
-    go : Stepped c s → s .rec .steps + collectorSteps (c ∷ []) ≤ tight m r (s .rec .blackened + blackenings (c ∷ []) s)
-    go (goes-on e₁ a b x k) = absurd (true≢false (sym e ∙ e₁))
-    go (closes e₁ a b k) =
-        let p = rw (qm, qr) at (last-paid (s .rec .phase) (at-last c s e) (g .inv .in-phase) (g .bill)) in
+    go : Stepped E c s → s .rec .steps + collectorSteps (c ∷ []) ≤ tight E m r
+        (s .rec .blackened + blackenings (c ∷ []) s)
+    go (goes-on e₁ a k) = absurd (true≢false (sym e ∙ e₁))
+    go (closes e₁ a k) =
+        let p = rw (qm, qr) at (last-paid (at-last c s g e) (g .inv .in-phase) (g .bill)) in
         let q : s .rec .blackened ≤ s .rec .blackened + blackenings (c ∷ []) s = omega arith in
-        omega (arith, p, one-more c [] (k .kind), mul-le-mul-right (m + 3) q)
+        omega (arith, p, one-more c [] (k .kind), mul-le-mul-right (m + suc E) q)
     go (edits e₁ h k) = absurd (true≢false (sym e ∙ e₁))
-rest-cost {m} {r} (more {c = c} {cs = cs} {s = s} e t) g qm qr = go (stepped c s g) (rest-cost t (sound-step c s g))
+rest-cost {E} {m} {r} (more {c = c} {cs = cs} {s = s} e t) g qm qr = go (stepped c s g)
+    (rest-cost t (sound-step c s g))
   where
-    go : Stepped c s
+    go : Stepped E c s
         → (after c s .rec .m ≡ m → after c s .rec .r ≡ r
-        → after c s .rec .steps + collectorSteps cs ≤ tight m r (after c s .rec .blackened + blackenings cs (after c s)))
-        → s .rec .steps + collectorSteps (c ∷ cs) ≤ tight m r (s .rec .blackened + blackenings (c ∷ cs) s)
-    go (goes-on e₁ a b x k) f = omega (arith, rw (a, x) at (f (k .nodes ∙ qm) (k .slots ∙ qr)), one-more c cs (k .kind))
-    go (closes e₁ a b k) f = absurd (true≢false (sym e₁ ∙ e))
+        → after c s .rec .steps + collectorSteps cs ≤ tight E m r
+        (after c s .rec .blackened + blackenings cs (after c s)))
+        → s .rec .steps + collectorSteps (c ∷ cs) ≤ tight E m r
+        (s .rec .blackened + blackenings (c ∷ cs) s)
+    go (goes-on e₁ a k) f =
+        let p =
+        rw (
+          ap (λ (n : Count). n .blackened) a,
+          one-black (blackens (step c s .answer))
+              (s .rec .blackened) _,
+        ) at (f (k .nodes ∙ qm) (k .slots ∙ qr)) in
+        omega (arith, p, ap (λ (n : Count). n .since) a, one-more c cs (k .kind))
+    go (closes e₁ a k) f = absurd (true≢false (sym e₁ ∙ e))
     go (edits e₁ h k) f =
-        rw (k .blackens) (omega (arith, rw (k .same .steps, k .same .blackened) at (f (k .same .m ∙ qm) (k .same .r ∙ qr)), no-more c cs h))
+        let p =
+        rw (ap (λ (n : Count). n .blackened) (k .same .counts)) at
+        (f (k .same .m ∙ qm) (k .same .r ∙ qr)) in
+        rw (k .blackens)
+        (omega (arith, p, ap (λ (n : Count). n .since) (k .same .counts), no-more c cs h))
 
 -- a cycle begins in Roots 0
-pub cycle-cost : {m r : ℕ} {cs : List Step} {s : State} → Reached m r s → s .rec .phase ≡ Roots 0 → ToEnd cs s
-    → collectorSteps cs ≤ tight m r (blackenings cs s)
-cycle-cost {m} {r} {cs} {s} k q t = go (rw q at (g .0 .bill)) refl refl
+pub cycle-cost : {E m r : ℕ} {cs : List Step} {s : State} → Reached E m r s → s .rec .phase
+    ≡ Roots 0 → ToEnd cs s
+    → collectorSteps cs ≤ tight E m r (blackenings cs s)
+cycle-cost {E} {m} {r} {cs} {s} k q t = go (rw q at (g .0 .bill)) refl refl
   where
-    g : Sound s × (s .rec .m ≡ m) × (s .rec .r ≡ r)
+    g : Sound E s × (s .rec .m ≡ m) × (s .rec .r ≡ r)
     g = sound-reached k
 
-    go : {c : Colours} {m′ r′ n b : ℕ} → Bill m′ r′ c n b (Roots 0) → s .rec .steps ≡ n → s .rec .blackened ≡ b
-        → collectorSteps cs ≤ tight m r (blackenings cs s)
+    go : {c : Colours} {m′ r′ n b : ℕ} → Bill E m′ r′ c n b (Roots 0) (K.Rooting 0) → s .rec .steps
+        ≡ n → s .rec .blackened ≡ b
+        → collectorSteps cs ≤ tight E m r (blackenings cs s)
     go (of-roots n0 b0) qn qb =
         let z : s .rec .blackened + blackenings cs s ≡ blackenings cs s = omega arith in
         omega (arith, rw z at (rest-cost t (g .0) (g .1) (g .2)))

@@ -1,134 +1,194 @@
--- Demand 3: each of its claims, of a sound state, and all of them of every run from Fresh.
-use Prim.Native.Nat.{ℕ, _<_}
-use mathlib.Core.Bool.{true, true≢false}
-use mathlib.Core.Path.{_≡_, refl, sym, ap, _∙_}
-use mathlib.Core.Logic.{_≢_}
-use mathlib.Core.Option.{none}
+-- Demand 3: each of its claims, of a sound state, and all of them of every run from a start.
+use Prim.Native.Nat.{ℕ, suc, _<_}
+use mathlib.Core.Bool.{true, false, true≢false}
+use mathlib.Core.Path.{_≡_, refl, sym, ap, _∙_, subst}
+use mathlib.Core.Logic.{_≢_, _⊎_, inl, inr}
+use mathlib.Core.Option.{none, some}
 use native.Mathlib.Omega.{arith}
-use Rattle.rules.specs.Table.{State, edge, colourOf}
+use Rattle.rules.specs.Table.{State, FREE, left, edge, colourOf}
 use Rattle.rules.specs.Check.{bound}
 use Rattle.rules.specs.Steps.{step, codeOf}
 use Rattle.rules.specs.declared.Step.{Step}
-use Rattle.rules.specs.declared.Phase.{Phase}
-use Rattle.rules.specs.declared.Phase.the-variants.{Roots, Scan, Left, Right, Black, Append}
 use Rattle.rules.specs.declared.Answer.the-variants.{Appended}
 use Rattle.theory.specs.Reach.{Reach, Root, Slot, Garbage}
-use Rattle.theory.proofs.Chains.{chain-keep}
-use Rattle.theory.proofs.Steps.{Tick}
-use Rattle.theory.proofs.Safe as S
-use S.{untouched}
+use Rattle.theory.proofs.Steps as S
+use S.{Tick}
+use Rattle.theory.proofs.Safe as A
+use A.{untouched, Edits, of-slot, of-free, of-first, edit-where}
 use Rattle.theory.proofs.Facts as F
-use Rattle.theory.proofs.Invariant.{Free, at-roots}
-use Rattle.runs.specs.Runs.{after, collector, Count}
+use Rattle.theory.proofs.Marking.{none≢some}
+use Rattle.theory.proofs.Invariant.{Inv, Free, at-roots}
+use Rattle.runs.specs.Runs.{after, collector, Count, begun}
 use Rattle.runs.specs.Demand.{RootReaches, SlotReaches, Mild, FreeNodes, Demand, Demand-3}
-use Rattle.runs.proofs.Tables.{edges, edge-is, edge-some, edge-stays, reach-there, reach-here}
-use Rattle.runs.proofs.Sound.{owes, top, InvIn, Sound, sizes}
+use Rattle.runs.proofs.Codes.{mild}
+use Rattle.runs.proofs.Tables.{Rows, reach-from}
+use Rattle.runs.proofs.Phases.{view, is-append}
+use Rattle.runs.proofs.Sound.{owes, stateIn, top, Sound, sizes, Ready, ready}
+use Rattle.runs.proofs.Made.{named}
+use Rattle.runs.proofs.Edited.{made-there, walked, walked-at}
 use Rattle.runs.proofs.AnyStep.{Collected, Stepped, goes-on, closes, edits, stepped}
-use Rattle.runs.proofs.Counting.{begun, Carried, carried-run, ends-within}
-use Rattle.runs.proofs.Soon.{appended-within}
-use Rattle.runs.proofs.FromFresh.{starts}
+use Rattle.runs.proofs.Counting.{Carried, carried-run, ends-within, appended-within}
+use Rattle.runs.proofs.Starts.{starts}
 
 -- what slots and roots reach, and garbage, as the theory has them
-module _ (s : State) {x : ℕ} where
-  slot-there : SlotReaches s x → Reach 2 (Slot (top s)) (edges s) x
-  slot-there a = reach-there s (λ n h. omega arith) a
+module _ {E m : ℕ} (s : State) (w : Rows E m (s .edges)) {x : ℕ} where
+  pub slot-there : SlotReaches s x → Reach E (Slot (top s)) (edge s) x
+  slot-there a = reach-from (λ n h. omega arith) (rw (w .count) at a)
 
-  root-there : RootReaches s x → Reach 2 (Root (top s)) (edges s) x
-  root-there a = reach-there s (λ n h. omega arith) a
+  pub slot-here : Reach E (Slot (top s)) (edge s) x → SlotReaches s x
+  slot-here a = rw (w .count) (reach-from (λ n h. omega arith) a)
 
-  garbage-there : ¬ RootReaches s x → Garbage 2 (top s) (edges s) x
-  garbage-there h a = h (reach-here s (λ n h. omega arith) a)
+  pub root-there : RootReaches s x → Reach E (Root (top s)) (edge s) x
+  root-there a = reach-from (λ n h. omega arith) (rw (w .count) at a)
+
+  pub garbage-there : ¬ RootReaches s x → Garbage E (top s) (edge s) x
+  garbage-there h a = h (rw (w .count) (reach-from (λ n h. omega arith) a))
 
 -- up to the appending; while the roots are shaded no node is black
-no-black-to-white : (s : State) (ph : Phase) → InvIn s ph → ((i : ℕ) → ph ≢ Append i) → owes (s .rec .owed) ≡ none
-    → (e x : ℕ) → e < 2 → colourOf s x ≡ 2 → colourOf s (edges s e x) ≢ 0
-no-black-to-white s (Roots i) v h o e x he b = absurd (at-roots (v .in-phase) .no-black x b)
-no-black-to-white s (Scan i k) v h o e x he b = F.no-black-to-white v F.seeking o x e he b
-no-black-to-white s (Left i) v h o e x he b = F.no-black-to-white v F.working o x e he b
-no-black-to-white s (Right i) v h o e x he b = F.no-black-to-white v F.working o x e he b
-no-black-to-white s (Black i) v h o e x he b = F.no-black-to-white v F.working o x e he b
-no-black-to-white s (Append i) v h o e x he b = absurd (h i refl)
+no-black-to-white : {E : ℕ} (s : State) (ph : S.Phase) → Inv E (s .rec .m) (top s) (stateIn s ph)
+    → ((i : ℕ) → ph ≢ S.Appending i)
+    → owes (s .rec .owed) ≡ none → (e x : ℕ) → e < E → colourOf s x ≡ 2
+    → colourOf s (edge s e x) ≢ 0
+no-black-to-white s (S.Rooting i) v h o e x he b = absurd (at-roots (v .in-phase) .no-black x b)
+no-black-to-white s S.Seeking v h o e x he b = F.no-black-to-white v F.seeking o x e he b
+no-black-to-white s (S.Working i j) v h o e x he b = F.no-black-to-white v F.working o x e he b
+no-black-to-white s (S.Holding i j n) v h o e x he b = F.no-black-to-white v F.holding o x e he b
+no-black-to-white s (S.Appending i) v h o e x he b = absurd (h i refl)
 
-module _ {s : State} (g : Sound s) where
+module _ {E : ℕ} {s : State} (g : Sound E s) where
   accepts : (c : Step) → collector c ≡ true → codeOf (step c s .answer) ≡ 0
   accepts c h = go (stepped c s g)
     where
-      go : Stepped c s → codeOf (step c s .answer) ≡ 0
-      go (goes-on e a b x k) = k .code
-      go (closes e a b k) = k .code
+      go : Stepped E c s → codeOf (step c s .answer) ≡ 0
+      go (goes-on e a k) = k .code
+      go (closes e a k) = k .code
       go (edits e q k) = absurd (true≢false (sym h ∙ q))
 
-  mild : (c : Step) → Mild (codeOf (step c s .answer))
-  mild c = go (stepped c s g)
+  answers : (c : Step) → Mild (codeOf (step c s .answer))
+  answers c = go (stepped c s g)
     where
-      go : Stepped c s → Mild (codeOf (step c s .answer))
-      go (goes-on e a b x k) = omega (arith, k .code)
-      go (closes e a b k) = omega (arith, k .code)
+      go : Stepped E c s → Mild (codeOf (step c s .answer))
+      go (goes-on e a k) = rw (k .code) (mild refl)
+      go (closes e a k) = rw (k .code) (mild refl)
       go (edits e q k) = k .code
 
-  leaves : (c : Step) → collector c ≡ true → (side x : ℕ) → SlotReaches s x → edge (after c s) side x ≡ edge s side x
+  leaves : (c : Step) → collector c ≡ true → (side x : ℕ) → SlotReaches s x
+      → edge (after c s) side x ≡ edge s side x
   leaves c h side x a = go (stepped c s g)
     where
-      by : {tk : Tick} → Collected c s tk → edge (after c s) side x ≡ edge s side x
-      by k = edge-stays s (after c s) side x (λ e. untouched (sizes (g .fits)) (k .made) (g .inv) x e (slot-there s a))
+      by : {tk : Tick} → Collected E c s tk → edge (after c s) side x ≡ edge s side x
+      by k = untouched (sizes (g .fits)) (k .made) (g .inv) x side (slot-there s (g .rows) a)
 
-      go : Stepped c s → edge (after c s) side x ≡ edge s side x
-      go (goes-on e y z w k) = by k
-      go (closes e y z k) = by k
+      go : Stepped E c s → edge (after c s) side x ≡ edge s side x
+      go (goes-on e y k) = by k
+      go (closes e y k) = by k
       go (edits e q k) = absurd (true≢false (sym h ∙ q))
 
   appends-garbage : (c : Step) (x : ℕ) → step c s .answer ≡ Appended x → ¬ RootReaches s x
   appends-garbage c x q a = go (stepped c s g)
     where
-      by : {tk : Tick} → Collected c s tk → ⊥
-      by k = S.appends-garbage (rw q at (k .made)) (g .inv) (root-there s a)
+      by : {tk : Tick} → Collected E c s tk → ⊥
+      by k = A.appends-garbage (rw q at (k .made)) (g .inv) (root-there s (g .rows) a)
 
-      go : Stepped c s → ⊥
-      go (goes-on e y z w k) = by k
-      go (closes e y z k) = by k
+      go : Stepped E c s → ⊥
+      go (goes-on e y k) = by k
+      go (closes e y k) = by k
       go (edits e h k) =
           let w = rw q at (k .appends) in
           absurd (let z : _≡_ {A = ℕ} 0 1 = cc in omega arith)
 
-  free-nodes : FreeNodes s
+  names : (c : Step) (x : ℕ) → named (step c s .answer) ≡ some x → SlotReaches s x
+  names c x q = go (stepped c s g)
+    where
+      by : {tk : Tick} → Collected E c s tk → SlotReaches s x
+      by k = absurd (none≢some (sym (k .named) ∙ q))
+
+      go : Stepped E c s → SlotReaches s x
+      go (goes-on e y k) = by k
+      go (closes e y k) = by k
+      go (edits e h k) = slot-here s (g .rows) (k .named x q)
+
+  changes : (c : Step) → collector c ≡ false → (side x : ℕ)
+      → edge (after c s) side x ≢ edge s side x
+      → SlotReaches s x ⊎ ((side ≡ left) × ((x ≡ FREE) ⊎ (x ≡ edge s left FREE)))
+  changes c h side x ne = go (stepped c s g)
+    where
+      at : (edge (after c s) side x ≡ edge s side x) ⊎ Edits E (top s) (edge s) side x
+          → SlotReaches s x ⊎ ((side ≡ left) × ((x ≡ FREE) ⊎ (x ≡ edge s left FREE)))
+      at (inl q) = absurd (ne q)
+      at (inr (of-slot a)) = inl (slot-here s (g .rows) a)
+      at (inr (of-free a b)) = inr (a, inl b)
+      at (inr (of-first a b)) = inr (a, inr b)
+
+      go : Stepped E c s → SlotReaches s x ⊎ ((side ≡ left) × ((x ≡ FREE) ⊎ (x ≡ edge s left FREE)))
+      go (goes-on e y k) = absurd (true≢false (sym (k .kind) ∙ h))
+      go (closes e y k) = absurd (true≢false (sym (k .kind) ∙ h))
+      go (edits e q k) = at (edit-where (made-there k) (g .inv) side x)
+
+-- the free list, whatever the collector
+module _ {E : ℕ} {s : State} {ph : S.Phase} (g : Ready E s ph) where
+  pub free-nodes : FreeNodes s
   free-nodes = record {
     list = f .list;
     chained = record {
-      chain = chain-keep (edges s) (edge s) 1 (f .list) (λ x i. sym (edge-is s 0 x (omega arith))) (f .chain);
+      chain = f .chain;
       distinct = F.free-list (g .inv) .distinct;
     };
-    only = λ fs c. F.free-only (g .inv) fs (chain-keep (edge s) (edges s) 1 fs (λ x i. edge-is s 0 x (omega arith)) c);
+    only = λ fs c. F.free-only (g .inv) fs c;
     end = f .end;
-    bare = λ x i. sym (edge-is s 1 x (omega arith)) ∙ f .spare x i .bare 1 (omega arith);
+    bare = λ x i. f .spare x i .bare;
     inside = λ x i. omega (arith, f .spare x i .low, f .spare x i .high);
-    away = λ x i a. F.free-unreached (g .inv) x i (slot-there s a);
+    away = λ x i a. F.free-unreached (g .inv) x i (slot-there s (g .rows) a);
   }
     where
-      f : Free 2 (s .rec .m) (top s) (edges s) (s .rec .last)
+      f : Free E (s .rec .m) (top s) (edge s) (s .rec .last)
       f = g .inv .shape .free
 
-pub demand : {m r : ℕ} {n : Count} {s : State} → Carried m r n s → Demand m r n s
-demand {m} {r} {n} {s} v = record {
+pub demand : {E m r : ℕ} {n : Count} {s : State} → Carried E m r n s → Demand E m r n s
+demand {E} {m} {r} {n} {s} v = record {
+  edges = v .sound .rows .count;
   nodes = v .nodes;
   slots = v .slots;
-  accepted = accepts (v .sound);
-  mild = mild (v .sound);
+  accepted = λ c h. omega (arith, accepts (v .sound) c h);
+  mild = answers (v .sound);
   unchanged = leaves (v .sound);
-  spares = λ c x q a. appends-garbage (v .sound) c x q (reach-here s (λ n h. omega arith) (slot-there s a));
+  spares = λ c x q a. appends-garbage (v .sound) c x q (reach-from (λ n h. omega arith) a);
   garbage = appends-garbage (v .sound);
   ends = λ cs l. ends-within v cs (omega (arith, l));
-  within = omega (arith, v .took, v .sound .fits .took, same-bound);
-  steps = v .steps;
-  took = v .took;
-  appended = λ x hx a cs l. appended-within x cs s (v .sound) (omega (arith, v .nodes)) (garbage-there s a) (omega (arith, l, same-bound));
-  free = free-nodes (v .sound);
-  no-black-to-white = λ h o side x b.
-      let q = edge-some s side x in
-      rw (← q .2) (no-black-to-white s (s .rec .phase) (v .sound .inv) h (ap owes o) (q .0) x (q .1) b);
+  within =
+      omega (
+        arith,
+        ap (λ (n : Count). n .took) (v .counts),
+        v .sound .fits .told .took,
+        same-bound,
+      );
+  steps = omega (arith, ap (λ (n : Count). n .since) (v .counts));
+  took = omega (arith, ap (λ (n : Count). n .took) (v .counts));
+  cycles = omega (arith, ap (λ (n : Count). n .cycles) (v .counts));
+  blackened = omega (arith, ap (λ (n : Count). n .blackened) (v .counts));
+  inuse = omega (arith, ap (λ (n : Count). n .marked) (v .counts));
+  appended = λ x hx a cs l.
+      let u =
+      subst (λ r. Garbage E (suc (suc r)) (edge s) x) (v .slots)
+      (garbage-there s (v .sound .rows) a) in
+      appended-within v x hx u cs (omega (arith, l));
+  free = free-nodes (ready (v .sound));
+  nil = v .sound .inv .shape .nil;
+  head = v .sound .inv .shape .bare;
+  named =
+      λ p x e q. slot-here s (v .sound .rows)
+      (walked-at (rw q at (walked (ready (v .sound)) p (sym e))));
+  looks = λ c x q. names (v .sound) c x (ap named q);
+  links = λ c x q. names (v .sound) c x (ap named q);
+  edits = changes (v .sound);
+  no-black-to-white = λ h o side x l b.
+      no-black-to-white s _ (v .sound .inv)
+      (λ i q. h i (is-append (view (v .sound .fits .few) (s .rec .phase)) q)) (ap owes o) side x
+      (omega (arith, l, v .sound .rows .count)) b;
 }
   where
-    same-bound : bound (s .rec .m) (s .rec .r) ≡ bound m r
+    same-bound : bound E (s .rec .m) (s .rec .r) ≡ bound E m r
     same-bound = rw (v .nodes, v .slots) refl
 
 pub demand-3 : Demand-3
-demand-3 m r l k c e cs = demand (carried-run cs _ begun (starts m r l k c e))
+demand-3 e m r s k cs = demand (carried-run cs s begun (starts k))

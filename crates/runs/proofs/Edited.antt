@@ -1,18 +1,21 @@
--- What is said of an outcome of an editor's step: it is a step of the theory's editor, or changes nothing, and its code is not 1, 2 or 7.
--- Codes before the walk, and the walk: from a sound state they refuse mildly, or the place names a node.
-use Prim.Native.Nat.{ℕ, zero, suc, _/_, _%_, _<_}
+-- What is said of an outcome of an editor's step: it is a step of the theory's editor, or changes
+-- nothing, and its code is mild. Codes before the walk, and the walk: from a ready state they
+-- refuse mildly, or the place names a node.
+use Prim.Native.Nat.{ℕ, zero, suc, _/_, _%_}
+use mathlib.Core.Bool.{true, false}
 use mathlib.Core.Path.{_≡_, refl, sym}
-use mathlib.Core.Option.{none}
-use mathlib.Core.List.{List, [], _∷_}
+use mathlib.Core.Option.{none, some}
+use mathlib.Core.List.{List, [], _∷_, map}
+use lib.ListN.{length}
 use native.Mathlib.Omega.{arith}
-use borrow.Author.Tests.{eqb-true, leb-true}
+use borrow.Author.Tests.{eqb-true, ltb-true}
 use Rattle.base.specs.Choice.{first}
-use Rattle.base.proofs.Tests.{split, Zeros, zeros}
-use Rattle.rules.specs.Table.{State, Outcome, refuse, unless, edge}
+use Rattle.base.proofs.Tests.{each, split, Zeros, zeros}
+use Rattle.rules.specs.Table.{State, sides, Outcome, refuse, unless, edge}
 use Rattle.rules.specs.Records.{withOwed, withLast}
 use Rattle.rules.specs.Check.{check}
-use Rattle.rules.specs.Places.{placeCode, start, walkFrom, walk, arrive}
-use Rattle.rules.specs.Editor.{sideCode, owedCode}
+use Rattle.rules.specs.Places.{base, sidesOk, turnsOk, placeCode, start, walkFrom, walk, arrive}
+use Rattle.rules.specs.Editor.{owedCode}
 use Rattle.rules.specs.Steps.{codeOf}
 use Rattle.rules.specs.declared.Record.{Record}
 use Rattle.rules.specs.declared.Place.{Place}
@@ -22,13 +25,16 @@ use Rattle.rules.specs.declared.Owed.{Owed}
 use Rattle.rules.specs.declared.Owed.the-variants.{Nothing, Node}
 use Rattle.rules.proofs.Walks.{slot-below}
 use Rattle.theory.specs.Reach as R
-use Rattle.theory.proofs.Reaches.{Named}
-use Rattle.theory.proofs.Steps.{other, Deed, nothing, EStep, rest}
+use R.{Reach, Slot}
+use Rattle.theory.proofs.Marking.{none≢some}
+use Rattle.theory.proofs.Steps as S
+use S.{other, Deed, nothing, EStep, rest}
+use Rattle.runs.specs.Runs.{kind, blackens}
 use Rattle.runs.specs.Demand.{Mild}
 use Rattle.runs.proofs.Picks.{if-no}
-use Rattle.runs.proofs.Tables.{edges, edge-is}
-use Rattle.runs.proofs.Sound.{owes, abs, top, Fits, Sound, checked}
-use Rattle.runs.proofs.Made.{act, blackens}
+use Rattle.runs.proofs.Codes.{mild, Milds, mild-first}
+use Rattle.runs.proofs.Sound.{owes, stateIn, abs, top, Fits, Ready}
+use Rattle.runs.proofs.Made.{act, named, counts}
 use Rattle.runs.proofs.WorkStep.{good-edge}
 
 -- an editor's step leaves the collector's part of the record
@@ -36,92 +42,99 @@ pub record Same (x y : Record) : Type 0 where
   pub m : y .m ≡ x .m
   pub r : y .r ≡ x .r
   pub phase : y .phase ≡ x .phase
-  pub steps : y .steps ≡ x .steps
-  pub took : y .took ≡ x .took
-  pub blackened : y .blackened ≡ x .blackened
+  pub counts : counts y ≡ counts x
 
-pub record Edited (s : State) (o : Outcome) : Type 0 where
+pub record Edited (E : ℕ) (s : State) (ph : S.Phase) (o : Outcome) : Type 0 where
   pub deed : Deed
-  pub made : EStep 2 (top s) deed (abs s) (abs (o .state))
+  pub made : EStep E (top s) deed (stateIn s ph) (stateIn (o .state) ph)
   pub code : Mild (codeOf (o .answer))
+  pub named : (x : ℕ) → named (o .answer) ≡ some x → Reach E (Slot (top s)) (edge s) x
   pub appends : act (o .answer) ≡ other
-  pub blackens : blackens (o .answer) ≡ 0
-  pub fits : Fits (o .state)
+  pub blackens : blackens (o .answer) ≡ false
+  pub fits : Fits E (o .state)
+  pub lengths : map length (o .state .edges) ≡ map length (s .edges)
   pub same : Same (s .rec) (o .state .rec)
+
+pub some-same : {x y : ℕ} → some x ≡ some y → x ≡ y
+some-same q = cc
 
 -- another node owed, and another last
 pub same : (x : Record) (o : Owed) (n : ℕ) → Same x (withLast (withOwed x o) n)
-same x o n = record { m = refl; r = refl; phase = refl; steps = refl; took = refl; blackened = refl }
+same x o n = record { m = refl; r = refl; phase = refl; counts = refl }
 
-pub refused : {s : State} → Fits s → (code node : ℕ) → Mild code → Edited s (refuse s code node)
-refused {s} f code node h = record {
+pub refused : {E : ℕ} {s : State} {ph : S.Phase} → Fits E s → (code node : ℕ) → Mild code
+    → Edited E s ph (refuse s code node)
+refused {E} {s} f code node h = record {
   deed = nothing;
   made = rest;
   code = h;
+  named = λ x q. absurd (none≢some q);
   appends = refl;
   blackens = refl;
   fits = f;
+  lengths = refl;
   same = same (s .rec) (s .rec .owed) (s .rec .last);
 }
 
--- each of the codes is mild
-abbrev pub Milds : List ℕ → Type 0
-Milds [] = Unit {0}
-Milds (c ∷ cs) = Mild c × Milds cs
-
-pub mild-first : (cs : List ℕ) → Milds cs → Mild (first cs)
-unfolding first
-mild-first [] h = omega arith
-mild-first (c ∷ cs) h = split Mild _ _ _ (λ q. mild-first cs (h .1)) (λ q. h .0)
-
 -- the codes given before the walk
-pub unless-edited : {s : State} → Sound s → (cs : List ℕ) (o : Outcome) → Milds cs → (Zeros cs → Edited s o) → Edited s (unless (first (check s ∷ cs)) s o)
+pub unless-edited : {E : ℕ} {s : State} {ph : S.Phase} → Ready E s ph → (cs : List ℕ) (o : Outcome)
+    → Milds cs → (Zeros cs → Edited E s ph o)
+    → Edited E s ph (unless (first (check s ∷ cs)) s o)
 unfolding unless
-unless-edited {s} g cs o h k =
-    split (Edited s) _ _ _ (λ q. k (zeros (check s ∷ cs) (sym (eqb-true _ _ q)) .1))
-    (λ q. refused (g .fits) _ 0 (mild-first (check s ∷ cs) (rw (← checked g) (omega arith), h)))
-
-pub mild-place : (r : ℕ) (p : Place) → Mild (placeCode r p)
-unfolding placeCode
-mild-place r p = split Mild _ _ _ (λ a. split Mild _ _ _ (λ b. omega arith) (λ b. omega arith)) (λ a. omega arith)
-
-pub mild-side : (side : ℕ) → Mild (sideCode side)
-unfolding sideCode
-mild-side side = split Mild _ _ _ (λ a. omega arith) (λ a. omega arith)
-
-pub side-below : (side : ℕ) → 0 ≡ sideCode side → side < 2
-unfolding sideCode
-side-below side = split (λ (n : ℕ). 0 ≡ n → side < 2) _ _ _ (λ a e. omega (arith, leb-true side 1 a)) (λ a e. absurd (omega arith))
-
-pub mild-owed : (o : Owed) → Mild (owedCode o)
-unfolding owedCode
-mild-owed Nothing = omega arith
-mild-owed (Node n) = omega arith
+unless-edited {E} {s} {ph} g cs o h k =
+    split (Edited E s ph) _ _ _ (λ q. k (zeros (check s ∷ cs) (sym (eqb-true _ _ q)) .1))
+    (λ q. refused (g .fits) _ 0 (mild-first (check s ∷ cs) (rw (← g .good) (mild refl), h)))
 
 pub none-owed : (o : Owed) → 0 ≡ owedCode o → owes o ≡ none
 unfolding owedCode
 none-owed Nothing e = refl
 none-owed (Node n) e = absurd (omega arith)
 
--- a walk comes to a node that the editor can name
-pub data Walked (s : State) : Walk → Type 0 where
-  at : {n : ℕ} → Named 2 (top s) (edges s) n → Walked s (At n)
+-- a walk comes to a node that a slot reaches
+pub data Walked (E : ℕ) (s : State) : Walk → Type 0 where
+  at : {n : ℕ} → Reach E (Slot (top s)) (edge s) n → Walked E s (At n)
 
-module _ {s : State} (g : Sound s) where
-  walk-on : (k w n : ℕ) → Named 2 (top s) (edges s) n → Walked s (walkFrom (edge s) (s .rec .m) k w n)
-  unfolding walkFrom
-  walk-on zero w n a = at a
-  walk-on (suc k) w n a =
-      let e : w % 2 < 2 = omega arith in
-      let q = edge-is s (w % 2) n e in
-      let below : edge s (w % 2) n < s .rec .m = omega (arith, q, g .inv .shape .bound (w % 2) n) in
-      let fine = good-edge (s .rec .m) (edge s (w % 2) n) below (omega (arith, q, g .inv .shape .not-free (w % 2) n)) in
-      split (Walked s) _ _ _ (λ z. at (R.start {n = 0} (omega arith)))
-      (λ z. if-no (Walked s) _ _ _ fine (walk-on k (w / 2) (edge s (w % 2) n) (R.along (w % 2) e q a)))
+pub walked-at : {E : ℕ} {s : State} {n : ℕ} → Walked E s (At n) → Reach E (Slot (top s)) (edge s) n
+walked-at (at a) = a
 
-  pub walked : (p : Place) → 0 ≡ placeCode (s .rec .r) p → Walked s (walk s p)
-  walked p e = walk-on (p .count) (p .word) (start p) (R.start {n = start p} (omega (arith, slot-below (s .rec .r) p e)))
+-- a place that passes its tests turns to sides that the table has
+turns-fit : (E r : ℕ) (p : Place) → 0 ≡ placeCode E r p → true ≡ sidesOk E (p .count) (p .word)
+unfolding placeCode turnsOk
+turns-fit E r p = split (λ (n : ℕ). 0 ≡ n → true ≡ sidesOk E (p .count) (p .word)) _ _ _
+    (λ a. split (λ (n : ℕ). 0 ≡ n → true ≡ sidesOk E (p .count) (p .word)) _ _ _
+    (λ b e. sym (each (_ ∷ sidesOk E (p .count) (p .word) ∷ _ ∷ []) (sym b) .1 .0))
+    (λ b e. absurd (omega arith)))
+    (λ a e. absurd (omega arith))
 
-  pub arrived : {w : Walk} (go : ℕ → Outcome) → Walked s w → ((n : ℕ) → Named 2 (top s) (edges s) n → Edited s (go n)) → Edited s (arrive s w go)
+module _ {E : ℕ} {s : State} {ph : S.Phase} (g : Ready E s ph) where
+  walk-on : (k w n : ℕ) → true ≡ sidesOk E k w → Reach E (Slot (top s)) (edge s) n
+      → Walked E s (walkFrom (base E) (edge s) (s .rec .m) k w n)
+  unfolding walkFrom sidesOk
+  walk-on zero w n h a = at a
+  walk-on (suc k) w n h a =
+      let d = w % base E in
+      let fine =
+      good-edge (s .rec .m) (edge s d n) (g .inv .shape .bound d n)
+      (g .inv .shape .not-free d n) in
+      let t = each _ h in
+      split (Walked E s) _ _ _ (λ z. at (rw (eqb-true n 0 z) at a))
+      (λ z. if-no (Walked E s) _ _ _ fine
+      (walk-on k (w / base E) (edge s d n) (sym (t .1 .0))
+      (R.along d (ltb-true _ _ (t .0)) refl a)))
+
+  pub walked : (p : Place) → 0 ≡ placeCode (sides s) (s .rec .r) p → Walked E s (walk s p)
+  walked p e =
+      rw (g .rows .count) (walk-on (p .count) (p .word) (start p)
+      (rw (g .rows .count) at (turns-fit (sides s) (s .rec .r) p e))
+      (R.start {n = start p} (omega (arith, slot-below (sides s) (s .rec .r) p e))))
+
+  pub arrived : {w : Walk} (go : ℕ → Outcome) → Walked E s w
+      → ((n : ℕ) → Reach E (Slot (top s)) (edge s) n → Edited E s ph (go n))
+      → Edited E s ph (arrive s w go)
   unfolding arrive
   arrived go (at {n = n} a) k = k n a
+
+-- the editor's step leaves the phase: it is one of the theory's state
+pub made-there : {E : ℕ} {s : State} {o : Outcome} (e : Edited E s (kind E (s .rec .phase)) o)
+    → EStep E (top s) (e .deed) (abs E s) (abs E (o .state))
+made-there e = rw (e .same .phase) (e .made)

@@ -1,15 +1,23 @@
--- The invariant of all runs: the sizes are good, the theory's invariant holds of the table, and the bill is paid.
--- In such a state neither code 1 nor code 2 is given.
-use Prim.Native.Nat.{ℕ, suc, _+_, _≤_, _<_}
-use mathlib.Core.Bool.{true}
+-- The invariant of all runs: the sizes are good, the theory's invariant holds of the table, and the
+-- bill is paid. In such a state neither code 1 nor code 2 is given. Of it an editor's step needs
+-- less: a state that is ready.
+use Prim.Native.Nat.{ℕ, zero, suc, _+_, _≤_, _<_}
+use mathlib.Core.Bool.{Bool, true}
+use mathlib.Core.List.{List, _++_, map}
 use mathlib.Core.Path.{_≡_, refl}
 use mathlib.Core.Logic.{_≢_, _⊎_, inl, inr}
 use mathlib.Core.Option.{Option, none, some}
 use native.Mathlib.Omega.{arith}
-use lib.ListN.{length}
-use Rattle.base.proofs.Tests.{lt-yes, le-yes, eq-yes, eq-no, or-first, or-skip, not-is, every-skip, every-last, pick-yes, tests}
-use Rattle.rules.specs.Table.{State, colourOf}
-use Rattle.rules.specs.Check.{sizeOk, phaseOk, owedOk, lastOk, bound, countsOk, recordOk, checkOf, check}
+use lib.ListN.{length, replicate, length-replicate}
+use lib.Dec.{eqb}
+use Rattle.base.specs.Choice.{every}
+use Rattle.base.proofs.Tests.{lt-yes, le-yes, eq-yes, eq-no, or-first, or-skip, not-is, every-skip}
+use Rattle.base.proofs.Tests.{every-last, pick-yes, tests}
+use Rattle.rules.specs.Table.{State, edge, colourOf}
+use Rattle.rules.specs.Check.{sizeOk, phaseOk, owedOk, lastOk, bound, cycleOk, countsOk, recordOk}
+use Rattle.rules.specs.Check.{checkOf, check}
+use Rattle.rules.specs.Facts.{Tells}
+use Rattle.rules.proofs.Good.{tells-ok}
 use Rattle.rules.specs.declared.Phase.{Phase}
 use Rattle.rules.specs.declared.Owed.{Owed}
 use Rattle.rules.specs.declared.Owed.the-variants.{Nothing, Node}
@@ -18,93 +26,133 @@ use Rattle.theory.proofs.Update.{Colours}
 use Rattle.theory.proofs.Steps as S
 use Rattle.theory.proofs.Invariant.{Sizes, InPhase, Inv, at-roots, at-work, at-append}
 use Rattle.theory.proofs.Facts.{owed-lies, last-lies}
-use Rattle.runs.proofs.Tables.{edges}
-use Rattle.runs.proofs.Bill.{kind, Bill, of-roots, of-scan, of-left, of-right, of-black, of-append, below-bound, blackened-le}
+use Rattle.runs.specs.Runs.{kind}
+use Rattle.runs.specs.Start.{Served}
+use Rattle.runs.proofs.Tables.{Rows}
+use Rattle.runs.proofs.Phases.{View, rooting, seeking, shading, blackening, appending, view}
+use Rattle.runs.proofs.Bill.{Bill, of-scan, below-bound, blackened-le}
 
 -- the node owed, if any
 abbrev pub owes : Owed → Option ℕ
 owes Nothing = none
 owes (Node n) = some n
 
--- the theory's state, in a phase
-abbrev pub stateAt : State → Phase → S.State
-stateAt s ph = S.st (edges s) (colourOf s) (kind ph) (owes (s .rec .owed)) (s .rec .last)
+-- the theory's state, in a phase of the theory
+abbrev pub stateIn : State → S.Phase → S.State
+stateIn s ph = S.st (edge s) (colourOf s) ph (owes (s .rec .owed)) (s .rec .last)
+
+-- and in a phase of the record
+abbrev pub stateAt : ℕ → State → Phase → S.State
+stateAt E s ph = stateIn s (kind E ph)
 
 -- the theory's state
-abbrev pub abs : State → S.State
-abs s = stateAt s (s .rec .phase)
+abbrev pub abs : ℕ → State → S.State
+abs E s = stateAt E s (s .rec .phase)
 
 -- the first node that is no root
 abbrev pub top : State → ℕ
 top s = suc (suc (s .rec .r))
 
 -- the theory's invariant of s, and the bill, in a phase
-abbrev pub InvIn : State → Phase → Type 0
-InvIn s ph = Inv 2 (s .rec .m) (top s) (stateAt s ph)
+abbrev pub InvIn : ℕ → State → Phase → Type 0
+InvIn E s ph = Inv E (s .rec .m) (top s) (stateAt E s ph)
 
-abbrev pub BillIn : State → Phase → Type 0
-BillIn s ph = Bill (s .rec .m) (s .rec .r) (colourOf s) (s .rec .steps) (s .rec .blackened) ph
+abbrev pub BillIn : ℕ → State → Phase → Type 0
+BillIn E s ph = Bill E (s .rec .m) (s .rec .r) (colourOf s) (s .rec .steps) (s .rec .blackened) ph
+    (kind E ph)
 
-pub record Fits (s : State) : Type 0 where
+pub record Fits (E : ℕ) (s : State) : Type 0 where
+  pub few : Served E
   pub m-low : 3 ≤ s .rec .m
   pub m-high : s .rec .m ≤ 4096
   pub r-low : 1 ≤ s .rec .r
   pub r-high : s .rec .r ≤ 64
   pub room : s .rec .r + 2 ≤ s .rec .m
-  pub lefts : length (s .left) ≡ s .rec .m
-  pub rights : length (s .right) ≡ s .rec .m
   pub colours : length (s .colour) ≡ s .rec .m
-  pub in-use : s .rec .inuse ≤ s .rec .m
-  pub took : s .rec .took ≤ bound (s .rec .m) (s .rec .r)
+  pub told : Tells (s .rec) (bound E (s .rec .m) (s .rec .r))
 
-pub record Sound (s : State) : Type 0 where
-  pub fits : Fits s
-  pub inv : InvIn s (s .rec .phase)
-  pub bill : BillIn s (s .rec .phase)
+pub record Sound (E : ℕ) (s : State) : Type 0 where
+  pub rows : Rows E (s .rec .m) (s .edges)
+  pub fits : Fits E s
+  pub inv : InvIn E s (s .rec .phase)
+  pub bill : BillIn E s (s .rec .phase)
 
-pub sizes : {s : State} → Fits s → Sizes 2 (s .rec .m) (top s)
-sizes f = record { edges = omega arith; fixed = omega arith; room = omega (arith, f .room) }
+pub sizes : {E : ℕ} {s : State} → Fits E s → Sizes E (s .rec .m) (top s)
+sizes f = record {
+  edges =
+      omega (arith, f .few);
+  fixed = omega arith;
+  room = omega (arith, f .room);
+}
 
-pub cycle-goes : {s : State} → Sound s → s .rec .steps < bound (s .rec .m) (s .rec .r)
-cycle-goes {s} g = below-bound {ph = s .rec .phase} (g .inv .in-phase) (g .bill)
+pub cycle-goes : {E : ℕ} {s : State} → Sound E s → s .rec .steps < bound E (s .rec .m) (s .rec .r)
+cycle-goes g = below-bound (g .inv .in-phase) (g .bill)
 
-size-ok : {s : State} → Fits s → true ≡ sizeOk (s .rec .m) (s .rec .r) (length (s .left)) (length (s .right)) (length (s .colour))
+-- E lengths of m are m each
+all-equal : (E m : ℕ) (bs : List Bool) → true ≡ every bs → true
+    ≡ every (map (λ n. eqb n m) (replicate E m) ++ bs)
+all-equal zero m bs h = h
+all-equal (suc E) m bs h = every-skip _ _ _ (eq-yes m m refl) (all-equal E m bs h)
+
+pub size-ok : {E : ℕ} {s : State} → Fits E s → true
+    ≡ sizeOk (s .rec .m) (s .rec .r) (replicate E (s .rec .m)) (length (s .colour))
 unfolding sizeOk
-size-ok f = search (tests, f .m-low, f .m-high, f .r-low, f .r-high, f .room, f .lefts, f .rights, f .colours) depth 12
+size-ok {E} {s} f =
+    let rest = all-equal E (s .rec .m) _ (every-last _ _ (eq-yes _ _ (f .colours))) in
+    search (tests, f .m-low, f .m-high, f .r-low, f .r-high, f .room, rest) depth 12
 
-phase-ok : {m r : ℕ} {s : Graph} {c : Colours} {o : Option ℕ} {n b : ℕ} {ph : Phase} → InPhase 2 m (suc (suc r)) s c o (kind ph) → Bill m r c n b ph
-    → true ≡ phaseOk m r ph
+phase-ok : {E m r : ℕ} {s : Graph} {c : Colours} {o : Option ℕ} {n b : ℕ} {ph : Phase} → View E ph
+    → InPhase E m (suc (suc r)) s c o (kind E ph)
+    → Bill E m r c n b ph (kind E ph) → true ≡ phaseOk m r ph
 unfolding phaseOk
-phase-ok {r = r} v (of-roots {i = i} q z) = le-yes i (r + 1) (omega (arith, at-roots v .pos))
-phase-ok v (of-scan w) = search (tests, w .pos, w .low, w .high)
-phase-ok v (of-left w) = lt-yes _ _ (at-work v .pos)
-phase-ok v (of-right w) = lt-yes _ _ (at-work v .pos)
-phase-ok v (of-black w) = lt-yes _ _ (at-work v .pos)
-phase-ok v (of-append w) = lt-yes _ _ (at-append v .pos)
+phase-ok {r = r} (rooting i) v b = le-yes i (r + 1) (omega (arith, at-roots v .pos))
+phase-ok (seeking i k) v (of-scan w) = search (tests, w .pos, w .low, w .high)
+phase-ok {m =
+    m} {r} (shading k) v b = rw (k .test m r) (lt-yes _ _ (at-work (rw (k .here) at v) .pos))
+phase-ok (blackening i) v b = lt-yes _ _ (at-work v .pos)
+phase-ok (appending i) v b = lt-yes _ _ (at-append v .pos)
 
-owed-ok : {m : ℕ} (o : Owed) → ((x : ℕ) → owes o ≡ some x → (x ≢ 1) × (x < m)) → true ≡ owedOk m o
+pub owed-ok : {m : ℕ} (o : Owed) → ((x : ℕ) → owes o ≡ some x → (x ≢ 1) × (x < m)) → true
+    ≡ owedOk m o
 unfolding owedOk
 owed-ok Nothing h = refl
-owed-ok (Node x) h = every-skip _ _ _ (not-is _ (eq-no _ _ (h x refl .0))) (every-last _ _ (lt-yes _ _ (h x refl .1)))
+owed-ok (Node x) h = every-skip _ _ _ (not-is _ (eq-no _ _ (h x refl .0)))
+    (every-last _ _ (lt-yes _ _ (h x refl .1)))
 
-last-ok : {m r : ℕ} (l : ℕ) → (l ≡ 1) ⊎ ((suc (suc r) ≤ l) × (l < m)) → true ≡ lastOk m r l
+pub last-ok : {m r : ℕ} (l : ℕ) → (l ≡ 1) ⊎ ((suc (suc r) ≤ l) × (l < m)) → true ≡ lastOk m r l
 unfolding lastOk
 last-ok l (inl q) = or-first _ _ (eq-yes _ _ q)
 last-ok {r = r} l (inr q) =
-    or-skip _ _ _ (eq-no l 1 (omega arith)) (every-skip _ _ _ (le-yes (r + 2) l (omega arith)) (every-last _ _ (lt-yes _ _ (q .1))))
+    or-skip _ _ _ (eq-no l 1 (omega arith))
+    (every-skip _ _ _ (le-yes (r + 2) l (omega arith)) (every-last _ _ (lt-yes _ _ (q .1))))
 
-counts-ok : {s : State} → Sound s → true ≡ countsOk (s .rec) (bound (s .rec .m) (s .rec .r))
-unfolding countsOk
-counts-ok g = search (tests, blackened-le (g .bill), g .fits .in-use, cycle-goes g, g .fits .took) depth 7
+counts-ok : {E : ℕ} {s : State} → Sound E s → true
+    ≡ countsOk (s .rec) (bound E (s .rec .m) (s .rec .r))
+unfolding countsOk cycleOk
+counts-ok {s} g =
+    search (tests, blackened-le (g .bill), cycle-goes g, tells-ok (s .rec) _ (g .fits .told)) depth
+    7
 
-record-ok : {s : State} → Sound s → true ≡ recordOk (s .rec)
+record-ok : {E : ℕ} {s : State} → Sound E s → true ≡ recordOk E (s .rec)
 unfolding recordOk
 record-ok {s} g =
-    let p = phase-ok {ph = s .rec .phase} (g .inv .in-phase) (g .bill) in
+    let p = phase-ok (view (g .fits .few) (s .rec .phase)) (g .inv .in-phase) (g .bill) in
     let o = owed-ok (s .rec .owed) (λ x q. owed-lies (sizes (g .fits)) (g .inv) q) in
     let l = last-ok (s .rec .last) (last-lies (g .inv)) in
     search (tests, p, o, l, counts-ok g) depth 7
 
-pub checked : {s : State} → Sound s → 0 ≡ check s
+pub checked : {E : ℕ} {s : State} → Sound E s → 0 ≡ check s
 unfolding checkOf
-checked g = pick-yes _ _ _ _ (size-ok (g .fits)) (pick-yes _ _ _ _ (record-ok g) refl)
+checked {E} {s} g =
+    rw (g .rows .lengths, length-replicate E (s .rec .m))
+    (pick-yes _ _ _ _ (size-ok (g .fits)) (pick-yes _ _ _ _ (record-ok g) refl))
+
+-- what an editor's step needs to know, whatever the collector and its phase
+pub record Ready (E : ℕ) (s : State) (ph : S.Phase) : Type 0 where
+  pub rows : Rows E (s .rec .m) (s .edges)
+  pub fits : Fits E s
+  pub inv : Inv E (s .rec .m) (top s) (stateIn s ph)
+  pub good : 0 ≡ check s
+
+pub ready : {E : ℕ} {s : State} → Sound E s → Ready E s (kind E (s .rec .phase))
+ready g = record { rows = g .rows; fits = g .fits; inv = g .inv; good = checked g }

@@ -21,4 +21,5 @@ begun code n x = pick (eqb code 0) (going 0 n x) (ended 0 code x)
 
 -- after the next step: one more is done, or its code ends the run
 unfoldable pub after : Going → Answer → Record → Going
-after g answer x = pick (eqb (codeOf answer) 0) (going (g .at + 1) (g .end) x) (ended (g .at) (codeOf answer) x)
+after g answer x =
+    pick (eqb (codeOf answer) 0) (going (g .at + 1) (g .end) x) (ended (g .at) (codeOf answer) x)

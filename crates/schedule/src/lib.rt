@@ -4,13 +4,15 @@ use rules::Ran;
 use rules::Record;
 use rules::Step;
 ghost use mathlib.Core.Path.{_≡_};
+ghost use mathlib.Core.List.{[], _∷_};
 ghost use Prim.Native.Nat.{_<_};
-ghost use Rattle.rules.specs.Table.{state, outcome};
 ghost use Rattle.rules.specs.declared.Made.{Made};
 ghost use Rattle.rules.specs.Check.{checkOf};
 ghost use Rattle.rules.specs.Steps.{step};
 ghost use Rattle.rules.specs.Schedules.{ran, schedule};
 ghost use Rattle.schedule.specs.Stands.{begun, after};
+ghost use Rattle.base.specs.Lent.{was, is};
+ghost use Rattle.rules.specs.Lent.{given, leaves};
 
 // Where a run stands: the next step, the step before which it ends, the code, and the record.
 pub struct Going {
@@ -22,7 +24,7 @@ pub struct Going {
 
 // Codes 1 and 2, judged for an empty run too.
 pub fn begin(lefts: usize, rights: usize, colours: usize, x: Record, n: usize) -> Going
-    ensures { λ g. ⌜ g ≡ begun (checkOf lefts rights colours x) n x ⌝ }
+    ensures { λ g. ⌜ g ≡ begun (checkOf (lefts ∷ rights ∷ []) colours x) n x ⌝ }
 {
     let judged = rules::check(lefts, rights, colours, x);
     if judged != 0 {
@@ -69,7 +71,9 @@ fn after(g: Going, made: Made) -> Going
 // One step.
 pub fn advance(left: &mut [u16], right: &mut [u16], colour: &mut [u8], g: Going, a: Step) -> Going
     requires { ⌜ g .at < g .end ⌝ }
-    ensures { λ r. ⌜ ((d : Made) × ((outcome d (now (left .exit)) (now (right .exit)) (now (colour .exit)) ≡ step a (state (now (left .entry)) (now (right .entry)) (now (colour .entry)) (g .rec))) × (r ≡ after g (d .answer) (d .rec)))) ⌝ }
+    ensures { λ r. ⌜
+        ((d : Made) × ((leaves d left right colour
+        ≡ step a (given left right colour (g .rec))) × (r ≡ after g (d .answer) (d .rec)))) ⌝ }
 {
     let x = g.rec;
     after(g, calls::step(left, right, colour, x, a))
@@ -83,7 +87,8 @@ pub fn schedule(
     colour: &mut [u8],
     rec: Record,
 ) -> Ran
-    ensures { λ r. ⌜ ran r (now (left .exit)) (now (right .exit)) (now (colour .exit)) ≡ schedule (now (steps .entry)) (state (now (left .entry)) (now (right .entry)) (now (colour .entry)) rec) ⌝ }
+    ensures { λ r. ⌜ ran r (is left) (is right) (is colour)
+        ≡ schedule (was steps) (given left right colour rec) ⌝ }
 {
     let mut g = begin(left.len(), right.len(), colour.len(), rec, steps.len());
     while g.at < g.end {

@@ -1,1 +1,1 @@
-pub mod Stirs
+pub mod Stops

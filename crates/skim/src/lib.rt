@@ -2,10 +2,17 @@
 ghost use mathlib.Core.Path.{_≡_};
 ghost use Prim.Native.Nat.{_+_, _<_, _≤_};
 ghost use lib.ListN.{length};
-ghost use Rattle.skim.specs.Stirs.{stop, stirs};
+ghost use Rattle.skim.specs.Stops.{stop, stops, block};
+ghost use Rattle.base.specs.Lent.{was};
+
+// The colours that are read at a time: four vectors of sixteen bytes.
+const BLOCK: usize = 64;
+
+// Behind every place of a block.
+const BEHIND: u8 = 64;
 
 // 1 where this colour stops a look, else 0.
-pub fn stops(v: u8) -> u8
+pub fn stop(v: u8) -> u8
     ensures { λ r. ⌜ (r ≤ 1) × (r ≡ stop v) ⌝ }
 {
     if v == 0 {
@@ -23,58 +30,46 @@ fn wide(a: u8) -> usize
     a as usize
 }
 
-// How many of the 64 colours from i on stop a look. It reads them all, so that the compiler can take them many at a time.
-fn block(colour: &[u8], i: usize) -> u8
-    requires { ⌜ i + 64 ≤ length (now colour) ⌝ }
-    ensures { λ r. ⌜ (r ≤ 64) × (r ≡ stirs (now (colour .entry)) i 64) ⌝ }
-{
-    let mut found = 0;
-    let mut j = 0;
-    while j < 64 {
-        found += stops(colour[i + j]);
-        j += 1;
-    }
-    found
-}
-
-// How many of the d colours from i on stop a look.
-fn few(colour: &[u8], i: usize, d: usize) -> usize
+// How many of the d colours from i on stop a look. It reads them all, so that the compiler can take
+// them many at a time where d is a block's size.
+fn stops_among(colour: &[u8], i: usize, d: usize) -> u8
     requires { ⌜ i + d ≤ length (now colour) ⌝ }
-    ensures { λ r. ⌜ (r ≤ d) × (r ≡ stirs (now (colour .entry)) i d) ⌝ }
+    requires { ⌜ d ≤ block ⌝ }
+    ensures { λ r. ⌜ (r ≤ d) × (r ≡ stops (was colour) i d) ⌝ }
 {
     let mut found = 0;
     let mut j = 0;
     while j < d {
-        found += wide(stops(colour[i + j]));
+        found += stop(colour[i + j]);
         j += 1;
     }
     found
 }
 
 // How many colours stop a look.
-pub fn stirring(colour: &[u8]) -> usize
-    ensures { λ r. ⌜ r ≡ stirs (now (colour .entry)) 0 (length (now (colour .entry))) ⌝ }
+pub fn all_stops(colour: &[u8]) -> usize
+    ensures { λ r. ⌜ r ≡ stops (was colour) 0 (length (was colour)) ⌝ }
 {
     let mut found = 0;
     let mut d = 0;
-    while 64 <= colour.len() - d {
-        found += wide(block(colour, d));
-        d += 64;
+    while BLOCK <= colour.len() - d {
+        found += wide(stops_among(colour, d, BLOCK));
+        d += BLOCK;
     }
-    found + few(colour, d, colour.len() - d)
+    found + wide(stops_among(colour, d, colour.len() - d))
 }
 
-// j where this colour stops a look, else 64.
-fn place(v: u8, j: u8) -> u8
+// j where this colour stops a look, else behind the block.
+fn stop_at(v: u8, j: u8) -> u8
     ensures { λ r. ⌜ (j < r → 0 ≡ stop v) ⌝ }
 {
-    if stops(v) != 0 {
+    if stop(v) != 0 {
         return j;
     }
-    64
+    BEHIND
 }
 
-fn lower(a: u8, b: u8) -> u8
+fn least(a: u8, b: u8) -> u8
     ensures { λ r. ⌜ (r ≤ a) × (r ≤ b) ⌝ }
 {
     if a < b {
@@ -83,44 +78,47 @@ fn lower(a: u8, b: u8) -> u8
     b
 }
 
-// Where the first of the 64 colours from i on is that stops a look; 64 if none does.
-fn within(colour: &[u8], i: usize) -> usize
-    requires { ⌜ i + 64 ≤ length (now colour) ⌝ }
-    ensures { λ r. ⌜ (r ≤ 64) × (0 ≡ stirs (now (colour .entry)) i r) ⌝ }
+// Where the first colour is, in the block from i on, that stops a look; the block's size if none
+// does.
+fn first_in_block(colour: &[u8], i: usize) -> usize
+    requires { ⌜ i + block ≤ length (now colour) ⌝ }
+    ensures { λ r. ⌜ (r ≤ block) × (0 ≡ stops (was colour) i r) ⌝ }
 {
-    let mut first = 64;
+    let mut first = BEHIND;
     let mut j = 0;
-    while j < 64 {
-        first = lower(first, place(colour[i + j], j as u8));
+    while j < BLOCK {
+        first = least(first, stop_at(colour[i + j], j as u8));
         j += 1;
     }
     wide(first)
 }
 
-// From i on, at most most colours, up to the first that stops a look, 64 at a time. The last ones are read with some of those before them.
-fn blocks(colour: &[u8], i: usize, most: usize) -> usize
-    requires { ⌜ (i + most ≤ length (now colour)) × (64 ≤ most) ⌝ }
-    ensures { λ d. ⌜ (d ≤ most) × (0 ≡ stirs (now (colour .entry)) i d) ⌝ }
+// From i on, at most most colours, up to the first that stops a look, a block at a time. The last
+// ones are read with some of those before them.
+fn until_stop_by_blocks(colour: &[u8], i: usize, most: usize) -> usize
+    requires { ⌜ i + most ≤ length (now colour) ⌝ }
+    requires { ⌜ block ≤ most ⌝ }
+    ensures { λ d. ⌜ (d ≤ most) × (0 ≡ stops (was colour) i d) ⌝ }
 {
     let mut d = 0;
-    while 64 <= most - d {
-        if block(colour, i + d) != 0 {
-            return d + within(colour, i + d);
+    while BLOCK <= most - d {
+        if stops_among(colour, i + d, BLOCK) != 0 {
+            return d + first_in_block(colour, i + d);
         }
-        d += 64;
+        d += BLOCK;
     }
-    let e = most - 64;
-    e + within(colour, i + e)
+    let e = most - BLOCK;
+    e + first_in_block(colour, i + e)
 }
 
 // The same, one at a time.
-fn singles(colour: &[u8], i: usize, most: usize) -> usize
+fn until_stop_by_ones(colour: &[u8], i: usize, most: usize) -> usize
     requires { ⌜ i + most ≤ length (now colour) ⌝ }
-    ensures { λ d. ⌜ (d ≤ most) × (0 ≡ stirs (now (colour .entry)) i d) ⌝ }
+    ensures { λ d. ⌜ (d ≤ most) × (0 ≡ stops (was colour) i d) ⌝ }
 {
     let mut d = 0;
     while d < most {
-        if stops(colour[i + d]) != 0 {
+        if stop(colour[i + d]) != 0 {
             return d;
         }
         d += 1;
@@ -129,12 +127,12 @@ fn singles(colour: &[u8], i: usize, most: usize) -> usize
 }
 
 // How many colours from i on, at most most, a look passes over.
-pub fn calm(colour: &[u8], i: usize, most: usize) -> usize
+pub fn until_stop(colour: &[u8], i: usize, most: usize) -> usize
     requires { ⌜ i + most ≤ length (now colour) ⌝ }
-    ensures { λ d. ⌜ (d ≤ most) × (0 ≡ stirs (now (colour .entry)) i d) ⌝ }
+    ensures { λ d. ⌜ (d ≤ most) × (0 ≡ stops (was colour) i d) ⌝ }
 {
-    if most < 64 {
-        return singles(colour, i, most);
+    if most < BLOCK {
+        return until_stop_by_ones(colour, i, most);
     }
-    blocks(colour, i, most)
+    until_stop_by_blocks(colour, i, most)
 }

@@ -9,48 +9,54 @@ use Rattle.rules.specs.declared.Record.{Record}
 use Rattle.rules.specs.declared.Phase.the-variants.{Scan}
 use Rattle.rules.specs.declared.Answer.the-variants.{Looked}
 use Rattle.rules.specs.Table.{State, state, did, colourOf}
-use Rattle.rules.specs.Records.{moved, next}
+use Rattle.rules.specs.Records.{withPhase, withSteps, moved, next}
 use Rattle.rules.specs.Check.{bound}
 use Rattle.rules.specs.Collector.{scanStep, phaseStep}
 use Rattle.rules.proofs.Good.{good, inside}
-use Rattle.skim.specs.Stirs.{stop, Calm}
+use Rattle.skim.specs.Stops.{stop, NoStop}
 use Rattle.skim.proofs.Counts.{still}
 use Rattle.strides.specs.Leads.{Passes, Leads}
 use Rattle.strides.proofs.Strides.{stay, then, step-on}
 
 -- the record after d looks from Scan i, k on
 abbrev pub leapt : Record → ℕ → ℕ → ℕ → Record
-leapt x i k d =
-    record { m = x .m; r = x .r; phase = Scan ((i + d) % x .m) (k - d); owed = x .owed; last = x .last; steps = x .steps + d; cycles = x .cycles; took = x .took; blackened = x .blackened; inuse = x .inuse }
+leapt x i k d = withPhase (withSteps x (x .steps + d)) (Scan ((i + d) % x .m) (k - d))
 
 -- one look
-look : (s : State) (i k : ℕ) → 0 ≡ stop (colourOf s i) → 1 < k → did (Looked i) s (moved (s .rec) (Scan (next (s .rec) i) (k - 1))) ≡ phaseStep s (Scan i k)
+look : (s : State) (i k : ℕ) → 0 ≡ stop (colourOf s i) → 1 < k
+    → did (Looked i) s (moved (s .rec) (Scan (next (s .rec) i) (k - 1))) ≡ phaseStep s (Scan i k)
 unfolding phaseStep scanStep
 look s i k h q =
     let v = still _ h in
-    pick-no _ _ _ _ (lt-no _ _ (v .0)) (pick-no _ _ _ _ (eq-no _ _ (v .1)) (pick-no _ _ _ _ (eq-no k 1 (λ z. omega arith)) refl))
+    pick-no _ _ _ _ (lt-no _ _ (v .0))
+    (pick-no _ _ _ _ (eq-no _ _ (v .1)) (pick-no _ _ _ _ (eq-no k 1 (λ z. omega arith)) refl))
 
-module _ (l r c : List ℕ) (x : Record) (i k : ℕ) (p : Passes (state l r c x)) (h : x .phase ≡ Scan i k) where
+module _ (l r c : List ℕ) (x : Record) (i k : ℕ) (p : Passes (state l r c x))
+    (h : x .phase ≡ Scan i k) where
   leapt-none : leapt x i k 0 ≡ x
   leapt-none =
-      let g = rw h at (inside _ _ _ x (p .code)) in
+      let g = rw h at (inside _ _ x (p .code)) in
       let a : i + 0 ≡ i = omega arith in
       let b : k - 0 ≡ k = omega arith in
       let s : x .steps + 0 ≡ x .steps = omega arith in
       rw (a, b, s, mod-eq-of-lt (g .0), ← h)
 
-  leapt-more : (d : ℕ) → moved (leapt x i k d) (Scan (next x ((i + d) % x .m)) (k - d - 1)) ≡ leapt x i k (suc d)
+  leapt-more : (d : ℕ) → moved (leapt x i k d) (Scan (next x ((i + d) % x .m)) (k - d - 1))
+      ≡ leapt x i k (suc d)
   leapt-more d =
       let a : i + d + 1 ≡ i + suc d = omega arith in
       let b : k - d - 1 ≡ k - suc d = omega arith in
       let s : x .steps + d + 1 ≡ x .steps + suc d = omega arith in
       rw (mod-add-mod, a, b, s)
 
-  pub looks : (d : ℕ) → d < k → x .steps + d < bound (x .m) (x .r) → Calm c (x .m) i d → Leads (state l r c x) d (state l r c (leapt x i k d))
+  pub looks : (d : ℕ) → d < k → x .steps + d < bound 2 (x .m) (x .r) → NoStop c (x .m) i d
+      → Leads (state l r c x) d (state l r c (leapt x i k d))
   looks zero q b m = rw leapt-none (stay _ 0 refl p)
   looks (suc d) q b m =
       let g = good _ _ _ x (p .code) in
       let t = state l r c (leapt x i k d) in
-      let w = looks d (omega arith) (omega arith) (record { none = λ j z. m .none j (omega arith) }) in
+      let w =
+      looks d (omega arith) (omega arith) (record { none = λ j z. m .none j (omega arith) }) in
       let n = look t ((i + d) % x .m) (k - d) (m .none d (omega arith)) (omega arith) in
-      then _ t _ d 1 _ (omega arith) w (rw (leapt-more d) at (step-on t _ (w .passes) n refl (g .blackened) (omega arith)))
+      then _ t _ d 1 _ (omega arith) w (rw (leapt-more d) at
+      (step-on t _ (w .passes) n refl (g .blackened) (omega arith)))

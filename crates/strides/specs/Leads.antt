@@ -1,11 +1,10 @@
 -- Many collector steps at once: what the inner functions of a batch promise one another.
 use Prim.Native.Nat.{ℕ, zero, suc, _+_, _≤_, _<_}
 use mathlib.Core.Path.{_≡_}
-use mathlib.Core.Bool.{Bool}
-use mathlib.Core.List.{List, [], _∷_}
+use mathlib.Core.List.{List}
 use lib.ListN.{getD}
-use lib.Dec.{ltb, leb, eqb}
-use Rattle.base.specs.Choice.{pick, every}
+use lib.Dec.{eqb}
+use Rattle.base.specs.Choice.{pick}
 use Rattle.rules.specs.Table.{State}
 use Rattle.rules.specs.Check.{bound, check}
 use Rattle.rules.specs.Steps.{step, collecting, codeOf}
@@ -25,7 +24,8 @@ lasted n a s = record { done = n; answer = a; state = s }
 unfoldable pub more : ℕ → ℕ → Answer → State → Lasted
 more zero d a s = lasted d a s
 more (suc n) d a s =
-    pick (eqb (codeOf (step collecting s .answer)) 0) (more n (d + 1) (step collecting s .answer) (step collecting s .state))
+    pick (eqb (codeOf (step collecting s .answer)) 0)
+    (more n (d + 1) (step collecting s .answer) (step collecting s .state))
     (lasted d (step collecting s .answer) s)
 
 -- neither code 1 nor code 2
@@ -34,7 +34,7 @@ pub record Passes (s : State) : Type 0 where
 
 -- so many steps stay below B
 pub record Room (x : Record) (cap : ℕ) : Type 0 where
-  pub steps : x .steps + cap < bound (x .m) (x .r)
+  pub steps : x .steps + cap < bound 2 (x .m) (x .r)
 
 -- d steps that are done lead from s to t
 pub record Leads (s : State) (d : ℕ) (t : State) : Type 0 where
@@ -44,11 +44,7 @@ pub record Leads (s : State) (d : ℕ) (t : State) : Type 0 where
   pub same : (n e : ℕ) (a : Answer) → more (d + suc n) e a s ≡ more (suc n) (e + d) a t
 
 -- a good edge to a node with a good colour
-pub record Fit (m : ℕ) (c : List ℕ) (e : ℕ) : Type 0 where
+pub record CanShade (m : ℕ) (c : List ℕ) (e : ℕ) : Type 0 where
   pub below : e < m
   pub not-free : e ≡ 1 → ⊥
-  pub known : getD c e 0 ≤ 2
-
--- what a step can spoil, b being B
-unfoldable pub fineOk : ℕ → Record → Bool
-fineOk b x = every (leb (x .blackened) (x .m) ∷ ltb (x .steps) b ∷ [])
+  pub colour : getD c e 0 ≤ 2

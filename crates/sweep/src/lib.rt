@@ -8,10 +8,12 @@ ghost use lib.ListN.{length, getD};
 ghost use Rattle.rules.specs.Table.{state};
 ghost use Rattle.rules.specs.declared.Phase.the-variants.{Roots, Append};
 ghost use Rattle.strides.specs.Leads.{Passes, Room, Leads};
-ghost use Rattle.sweep.specs.Rows.{rooted, Shades, swept};
+ghost use Rattle.sweep.specs.Sweeping.{rooted, Shades, swept};
+ghost use Rattle.base.specs.Lent.{was, is};
+ghost use Rattle.rules.specs.Lent.{given};
 
 // Where the appending stands: Append i, the end of the free list, and the steps made here.
-struct Row {
+struct AppendAt {
     i: usize,
     last: usize,
     d: usize,
@@ -19,8 +21,9 @@ struct Row {
 
 // Shades the nodes from i on, at most cap of them, up to a bad colour, and counts them.
 fn shading(colour: &mut [u8], i: usize, cap: usize) -> usize
-    requires { ⌜ (i + cap ≤ length (now colour)) × (length (now colour) ≤ 4096) ⌝ }
-    ensures { λ d. ⌜ (d ≤ cap) × Shades (now (colour .entry)) i cap d (now (colour .exit)) ⌝ }
+    requires { ⌜ i + cap ≤ length (now colour) ⌝ }
+    requires { ⌜ length (now colour) ≤ 4096 ⌝ }
+    ensures { λ d. ⌜ (d ≤ cap) × Shades (was colour) i cap d (is colour) ⌝ }
 {
     let mut d = 0;
     while d < cap {
@@ -33,48 +36,33 @@ fn shading(colour: &mut [u8], i: usize, cap: usize) -> usize
     d
 }
 
-fn rooted(x: Record, i: usize, d: usize) -> Record
-    requires { ⌜ (i + d < 4096) × (x .steps + d < 20000000) ⌝ }
+fn rooted(mut x: Record, i: usize, d: usize) -> Record
+    requires { ⌜ i + d < 4096 ⌝ }
+    requires { ⌜ x .steps + d < 20000000 ⌝ }
     ensures { λ r. ⌜ r ≡ rooted x i d ⌝ }
 {
-    let owed = x.owed;
-    Record {
-        m: x.m,
-        r: x.r,
-        phase: Phase::Roots((i + d) as u16),
-        owed,
-        last: x.last,
-        steps: x.steps + d as u32,
-        cycles: x.cycles,
-        took: x.took,
-        blackened: x.blackened,
-        inuse: x.inuse,
-    }
+    x.steps = x.steps + d as u32;
+    x.with_phase(Phase::Roots((i + d) as u16))
 }
 
-fn swept(x: Record, s: Row) -> Record
-    requires { ⌜ (s .i < 4096) × ((s .last < 4096) × (x .steps + s .d < 20000000)) ⌝ }
+fn swept(mut x: Record, s: AppendAt) -> Record
+    requires { ⌜ s .i < 4096 ⌝ }
+    requires { ⌜ s .last < 4096 ⌝ }
+    requires { ⌜ x .steps + s .d < 20000000 ⌝ }
     ensures { λ r. ⌜ r ≡ swept x s ⌝ }
 {
-    let owed = x.owed;
-    Record {
-        m: x.m,
-        r: x.r,
-        phase: Phase::Append(s.i as u16),
-        owed,
-        last: s.last as u16,
-        steps: x.steps + s.d as u32,
-        cycles: x.cycles,
-        took: x.took,
-        blackened: x.blackened,
-        inuse: x.inuse,
-    }
+    x.steps = x.steps + s.d as u32;
+    x.last = s.last as u16;
+    x.with_phase(Phase::Append(s.i as u16))
 }
 
 // Roots i: at most cap steps, none of them that of the last root.
 pub fn roots(left: &[u16], right: &[u16], colour: &mut [u8], x: Record, i: u16, cap: usize) -> Ahead
-    requires { ⌜ (Passes (state (now left) (now right) (now colour) x)) × ((Room x cap) × (x .phase ≡ Roots i)) ⌝ }
-    ensures { λ r. ⌜ (r .d ≤ cap) × Leads (state (now (left .entry)) (now (right .entry)) (now (colour .entry)) x) (r .d) (state (now (left .entry)) (now (right .entry)) (now (colour .exit)) (r .rec)) ⌝ }
+    requires { ⌜ Passes (state (now left) (now right) (now colour) x) ⌝ }
+    requires { ⌜ Room x cap ⌝ }
+    requires { ⌜ x .phase ≡ Roots i ⌝ }
+    ensures { λ r. ⌜ (r .d ≤ cap) × Leads (given left right colour x) (r .d)
+        (state (was left) (was right) (is colour) (r .rec)) ⌝ }
 {
     let from = i as usize;
     let near = strides::least(cap, x.r as usize + 1 - from);
@@ -86,9 +74,20 @@ pub fn roots(left: &[u16], right: &[u16], colour: &mut [u8], x: Record, i: u16, 
 }
 
 // A white node i goes to the end of the free list; s where that is refused.
-fn append_white(left: &mut [u16], right: &mut [u16], colour: &[u8], x: Record, s: Row) -> Row
-    requires { ⌜ (Passes (state (now left) (now right) (now colour) (swept x s))) × ((Room x (s .d + 1)) × ((s .i + 1 < x .m) × (getD (now colour) (s .i) 0 ≡ 0))) ⌝ }
-    ensures { λ r. ⌜ (r .d ≤ s .d + 1) × ((s .d ≤ r .d) × Leads (state (now (left .entry)) (now (right .entry)) (now (colour .entry)) (swept x s)) (r .d - s .d) (state (now (left .exit)) (now (right .exit)) (now (colour .entry)) (swept x r))) ⌝ }
+fn append_white(
+    left: &mut [u16],
+    right: &mut [u16],
+    colour: &[u8],
+    x: Record,
+    s: AppendAt,
+) -> AppendAt
+    requires { ⌜ Passes (state (now left) (now right) (now colour) (swept x s)) ⌝ }
+    requires { ⌜ Room x (s .d + 1) ⌝ }
+    requires { ⌜ s .i + 1 < x .m ⌝ }
+    requires { ⌜ getD (now colour) (s .i) 0 ≡ 0 ⌝ }
+    ensures { λ r. ⌜ (r .d ≤ s .d + 1) ×
+        ((s .d ≤ r .d) × Leads (given left right colour (swept x s)) (r .d - s .d)
+        (state (is left) (is right) (was colour) (swept x r))) ⌝ }
 {
     let i = s.i;
     let last = s.last;
@@ -101,7 +100,7 @@ fn append_white(left: &mut [u16], right: &mut [u16], colour: &[u8], x: Record, s
     left[i] = 0;
     right[i] = 0;
     left[last] = i as u16;
-    Row {
+    AppendAt {
         i: i + 1,
         last: i,
         d: s.d + 1,
@@ -109,9 +108,18 @@ fn append_white(left: &mut [u16], right: &mut [u16], colour: &[u8], x: Record, s
 }
 
 // One step of Append; s where it is refused, or where it is the last node's.
-fn append_one(left: &mut [u16], right: &mut [u16], colour: &mut [u8], x: Record, s: Row) -> Row
-    requires { ⌜ (Passes (state (now left) (now right) (now colour) (swept x s))) × (Room x (s .d + 1)) ⌝ }
-    ensures { λ r. ⌜ (r .d ≤ s .d + 1) × ((s .d ≤ r .d) × Leads (state (now (left .entry)) (now (right .entry)) (now (colour .entry)) (swept x s)) (r .d - s .d) (state (now (left .exit)) (now (right .exit)) (now (colour .exit)) (swept x r))) ⌝ }
+fn append_one(
+    left: &mut [u16],
+    right: &mut [u16],
+    colour: &mut [u8],
+    x: Record,
+    s: AppendAt,
+) -> AppendAt
+    requires { ⌜ Passes (state (now left) (now right) (now colour) (swept x s)) ⌝ }
+    requires { ⌜ Room x (s .d + 1) ⌝ }
+    ensures { λ r. ⌜ (r .d ≤ s .d + 1) ×
+        ((s .d ≤ r .d) × Leads (given left right colour (swept x s)) (r .d - s .d)
+        (state (is left) (is right) (is colour) (swept x r))) ⌝ }
 {
     let i = s.i;
     if i + 1 == x.m as usize {
@@ -119,7 +127,7 @@ fn append_one(left: &mut [u16], right: &mut [u16], colour: &mut [u8], x: Record,
     }
     if colour[i] == 2 {
         colour[i] = 0;
-        return Row {
+        return AppendAt {
             i: i + 1,
             last: s.last,
             d: s.d + 1,
@@ -137,10 +145,14 @@ fn appending(
     colour: &mut [u8],
     x: Record,
     cap: usize,
-    from: Row,
-) -> Row
-    requires { ⌜ (Passes (state (now left) (now right) (now colour) (swept x from))) × ((Room x cap) × (from .d ≤ cap)) ⌝ }
-    ensures { λ r. ⌜ (r .d ≤ cap) × ((from .d ≤ r .d) × Leads (state (now (left .entry)) (now (right .entry)) (now (colour .entry)) (swept x from)) (r .d - from .d) (state (now (left .exit)) (now (right .exit)) (now (colour .exit)) (swept x r))) ⌝ }
+    from: AppendAt,
+) -> AppendAt
+    requires { ⌜ Passes (state (now left) (now right) (now colour) (swept x from)) ⌝ }
+    requires { ⌜ Room x cap ⌝ }
+    requires { ⌜ from .d ≤ cap ⌝ }
+    ensures { λ r. ⌜ (r .d ≤ cap) × ((from .d ≤ r .d)
+        × Leads (given left right colour (swept x from)) (r .d - from .d)
+        (state (is left) (is right) (is colour) (swept x r))) ⌝ }
 {
     let mut s = from;
     while s.d < cap {
@@ -162,10 +174,13 @@ pub fn appends(
     i: u16,
     cap: usize,
 ) -> Ahead
-    requires { ⌜ (Passes (state (now left) (now right) (now colour) x)) × ((Room x cap) × (x .phase ≡ Append i)) ⌝ }
-    ensures { λ r. ⌜ (r .d ≤ cap) × Leads (state (now (left .entry)) (now (right .entry)) (now (colour .entry)) x) (r .d) (state (now (left .exit)) (now (right .exit)) (now (colour .exit)) (r .rec)) ⌝ }
+    requires { ⌜ Passes (state (now left) (now right) (now colour) x) ⌝ }
+    requires { ⌜ Room x cap ⌝ }
+    requires { ⌜ x .phase ≡ Append i ⌝ }
+    ensures { λ r. ⌜ (r .d ≤ cap) × Leads (given left right colour x) (r .d)
+        (state (is left) (is right) (is colour) (r .rec)) ⌝ }
 {
-    let from = Row {
+    let from = AppendAt {
         i: i as usize,
         last: x.last as usize,
         d: 0,

@@ -1,10 +1,11 @@
 // The leaves that read and write the node table.
 ghost use mathlib.Core.Path.{_≡_};
 ghost use Prim.Native.Nat.{ℕ, _<_};
-ghost use mathlib.Core.List.{List};
+ghost use mathlib.Core.List.{List, [], _∷_};
 ghost use lib.ListN.{length};
 ghost use Rattle.rules.specs.Table.{state, edgeOf, withEdge, badEdge, shadeIn};
 ghost use Rattle.rules.specs.declared.Record.{Record};
+ghost use Rattle.base.specs.Lent.{was, is};
 
 // Whether an edge is bad: at least M, or to FREE.
 pub fn bad_edge(m: u16, e: u16) -> bool
@@ -18,8 +19,10 @@ pub fn bad_edge(m: u16, e: u16) -> bool
 
 // The edge of node n on a side.
 pub fn edge(left: &[u16], right: &[u16], side: u32, n: u16) -> u16
-    requires { ⌜ (n < length (now left)) × (n < length (now right)) ⌝ }
-    ensures { λ e. ⌜ e ≡ edgeOf (now (left .entry)) (now (right .entry)) side n ⌝ }
+    requires { ⌜ side < 2 ⌝ }
+    requires { ⌜ n < length (now left) ⌝ }
+    requires { ⌜ n < length (now right) ⌝ }
+    ensures { λ e. ⌜ e ≡ edgeOf (was left ∷ was right ∷ []) side n ⌝ }
 {
     let at = n as usize;
     if side == 0 {
@@ -30,8 +33,11 @@ pub fn edge(left: &[u16], right: &[u16], side: u32, n: u16) -> u16
 
 // The edge of node n on a side now points to t.
 pub fn set_edge(left: &mut [u16], right: &mut [u16], side: u32, n: u16, t: u16)
-    requires { ⌜ (n < length (now left)) × (n < length (now right)) ⌝ }
-    ensures { λ _. ⌜ ((c : List ℕ) (x : Record) → state (now (left .exit)) (now (right .exit)) c x ≡ withEdge (state (now (left .entry)) (now (right .entry)) c x) side n t) ⌝ }
+    requires { ⌜ side < 2 ⌝ }
+    requires { ⌜ n < length (now left) ⌝ }
+    requires { ⌜ n < length (now right) ⌝ }
+    ensures { λ _. ⌜ ((c : List ℕ) (x : Record) → state (is left) (is right) c x
+        ≡ withEdge (state (was left) (was right) c x) side n t) ⌝ }
 {
     let at = n as usize;
     if side == 0 {
@@ -41,10 +47,10 @@ pub fn set_edge(left: &mut [u16], right: &mut [u16], side: u32, n: u16, t: u16)
     right[at] = t;
 }
 
-// To shade a node: white becomes gray, gray and black stay.
+// [Table 11] Makes a white node gray.
 pub fn shade_node(colour: &mut [u8], n: u16)
     requires { ⌜ n < length (now colour) ⌝ }
-    ensures { λ _. ⌜ now (colour .exit) ≡ shadeIn (now (colour .entry)) n ⌝ }
+    ensures { λ _. ⌜ is colour ≡ shadeIn (was colour) n ⌝ }
 {
     let at = n as usize;
     if colour[at] == 0 {

@@ -1,41 +1,24 @@
 // Take, over three lent slices and a record that goes by value.
+use places::Source;
 use rules::Answer;
 use rules::Made;
 use rules::Place;
 use rules::Record;
-use rules::Walk;
 ghost use mathlib.Core.Path.{_≡_};
+ghost use mathlib.Core.List.{[], _∷_};
 ghost use Prim.Native.Nat.{_+_, _<_, _≤_};
 ghost use lib.ListN.{length};
-ghost use Rattle.rules.specs.Table.{state, outcome, edgeOf};
+ghost use Rattle.rules.specs.Table.{mostSlots, state, edgeOf};
 ghost use Rattle.rules.specs.Editor.{depart, badFree, relink, takeNext, takeFirst};
 ghost use Rattle.rules.specs.Steps.{step, taking};
 ghost use Rattle.rules.specs.Facts.{Good};
 ghost use Rattle.rules.specs.declared.Record.{Record};
-ghost use Rattle.take.specs.Codes.{takeCode};
-
-fn take_code(lefts: usize, rights: usize, colours: usize, x: Record, p: Place, side: u32) -> u8
-    ensures { λ c. ⌜ c ≡ takeCode lefts rights colours x p side ⌝ }
-{
-    let checked = rules::check(lefts, rights, colours, x);
-    if checked != 0 {
-        return checked;
-    }
-    let sided = places::side_code(side);
-    if sided != 0 {
-        return sided;
-    }
-    let from = places::place_code(x.r, p);
-    if from != 0 {
-        return from;
-    }
-    let owed = x.owed;
-    places::owed_code(owed)
-}
+ghost use Rattle.base.specs.Lent.{was, is};
+ghost use Rattle.rules.specs.Lent.{given, leaves};
 
 // Whether an edge of the free chain is bad: to a root other than NIL, or at least M.
 fn bad_free(m: u16, r: u16, e: u16) -> bool
-    requires { ⌜ r ≤ 64 ⌝ }
+    requires { ⌜ r ≤ mostSlots ⌝ }
     ensures { λ b. ⌜ b ≡ badFree m r e ⌝ }
 {
     if m <= e {
@@ -49,8 +32,16 @@ fn bad_free(m: u16, r: u16, e: u16) -> bool
 
 // The edge points to f, FREE's left edge to g, f's left edge to NIL; f is shaded.
 fn relink(left: &mut [u16], right: &mut [u16], colour: &mut [u8], n: u16, side: u32, f: u16, g: u16)
-    requires { ⌜ (1 < length (now left)) × ((1 < length (now right)) × ((n < length (now left)) × ((n < length (now right)) × ((f < length (now left)) × ((f < length (now right)) × (f < length (now colour))))))) ⌝ }
-    ensures { λ _. ⌜ ((x : Record) → state (now (left .exit)) (now (right .exit)) (now (colour .exit)) x ≡ relink (state (now (left .entry)) (now (right .entry)) (now (colour .entry)) x) n side f g) ⌝ }
+    requires { ⌜ side < 2 ⌝ }
+    requires { ⌜ 1 < length (now left) ⌝ }
+    requires { ⌜ 1 < length (now right) ⌝ }
+    requires { ⌜ n < length (now left) ⌝ }
+    requires { ⌜ n < length (now right) ⌝ }
+    requires { ⌜ f < length (now left) ⌝ }
+    requires { ⌜ f < length (now right) ⌝ }
+    requires { ⌜ f < length (now colour) ⌝ }
+    ensures { λ _. ⌜ ((x : Record) → state (is left) (is right) (is colour) x
+        ≡ relink (given left right colour x) n side f g) ⌝ }
 {
     table::set_edge(left, right, side, n, f);
     table::set_edge(left, right, 0, 1, g);
@@ -69,21 +60,19 @@ fn take_next(
     f: u16,
     g: u16,
 ) -> Made
-    requires { ⌜ (Good (length (now left)) (length (now right)) (length (now colour)) x) × ((n < x .m) × (f < x .m)) ⌝ }
-    ensures { λ r. ⌜ outcome r (now (left .exit)) (now (right .exit)) (now (colour .exit)) ≡ takeNext (state (now (left .entry)) (now (right .entry)) (now (colour .entry)) x) n side f g ⌝ }
+    requires { ⌜ Good (length (now left)) (length (now right)) (length (now colour)) x ⌝ }
+    requires { ⌜ n < x .m ⌝ }
+    requires { ⌜ f < x .m ⌝ }
+    requires { ⌜ side < 2 ⌝ }
+    ensures { λ r. ⌜ leaves r left right colour
+        ≡ takeNext (given left right colour x) n side f g ⌝ }
 {
     if bad_free(x.m, x.r, g) {
-        return Made {
-            answer: Answer::Refused(7, f),
-            rec: x,
-        };
+        return rules::refusal(7, f, x);
     }
     let first = f as usize;
     if 2 < colour[first] {
-        return Made {
-            answer: Answer::Refused(7, f),
-            rec: x,
-        };
+        return rules::refusal(7, f, x);
     }
     if g == 0 {
         relink(left, right, colour, n, side, f, g);
@@ -94,10 +83,7 @@ fn take_next(
     }
     let next = g as usize;
     if 2 < colour[next] {
-        return Made {
-            answer: Answer::Refused(7, g),
-            rec: x,
-        };
+        return rules::refusal(7, g, x);
     }
     relink(left, right, colour, n, side, f, g);
     table::shade_node(colour, g);
@@ -117,20 +103,16 @@ fn take_first(
     f: u16,
     n: u16,
 ) -> Made
-    requires { ⌜ (Good (length (now left)) (length (now right)) (length (now colour)) x) × (n < x .m) ⌝ }
-    ensures { λ r. ⌜ outcome r (now (left .exit)) (now (right .exit)) (now (colour .exit)) ≡ takeFirst (state (now (left .entry)) (now (right .entry)) (now (colour .entry)) x) side f n ⌝ }
+    requires { ⌜ Good (length (now left)) (length (now right)) (length (now colour)) x ⌝ }
+    requires { ⌜ n < x .m ⌝ }
+    requires { ⌜ side < 2 ⌝ }
+    ensures { λ r. ⌜ leaves r left right colour ≡ takeFirst (given left right colour x) side f n ⌝ }
 {
     if bad_free(x.m, x.r, f) {
-        return Made {
-            answer: Answer::Refused(7, 1),
-            rec: x,
-        };
+        return rules::refusal(7, 1, x);
     }
     if f == 0 {
-        return Made {
-            answer: Answer::Refused(9, 0),
-            rec: x,
-        };
+        return rules::refusal(9, 0, x);
     }
     let g = table::edge(left, right, 0, f);
     take_next(left, right, colour, x, n, side, f, g)
@@ -145,24 +127,21 @@ fn take_from(
     p: Place,
     side: u32,
 ) -> Made
-    requires { ⌜ (Good (length (now left)) (length (now right)) (length (now colour)) x) × (p .slot < x .r) ⌝ }
-    ensures { λ r. ⌜ outcome r (now (left .exit)) (now (right .exit)) (now (colour .exit)) ≡ depart (state (now (left .entry)) (now (right .entry)) (now (colour .entry)) x) p (takeFirst (state (now (left .entry)) (now (right .entry)) (now (colour .entry)) x) side (edgeOf (now (left .entry)) (now (right .entry)) 0 1)) ⌝ }
+    requires { ⌜ Good (length (now left)) (length (now right)) (length (now colour)) x ⌝ }
+    requires { ⌜ p .slot < x .r ⌝ }
+    requires { ⌜ side < 2 ⌝ }
+    ensures { λ r. ⌜ leaves r left right colour
+        ≡ depart (given left right colour x) p
+        (takeFirst (given left right colour x) side (edgeOf (was left ∷ was right ∷ []) 0 1)) ⌝ }
 {
-    let from = places::walk(left, right, x.m, p);
-    let Walk::At(n) = from else {
-        return Made {
-            answer: Answer::Refused(7, places::stood(from)),
-            rec: x,
-        };
-    };
-    if n == 0 {
-        return Made {
-            answer: Answer::Refused(8, 0),
-            rec: x,
-        };
+    let from = places::depart(left, right, x.m, p);
+    match from {
+        Source::Found(n) => {
+            let f = table::edge(left, right, 0, 1);
+            take_first(left, right, colour, x, side, f, n)
+        }
+        Source::Missing(code, n) => rules::refusal(code, n, x),
     }
-    let f = table::edge(left, right, 0, 1);
-    take_first(left, right, colour, x, side, f, n)
 }
 
 // The edge of the source on a side now points to the first free node, which leaves the free list.
@@ -174,14 +153,12 @@ pub fn take(
     p: Place,
     side: u32,
 ) -> Made
-    ensures { λ r. ⌜ outcome r (now (left .exit)) (now (right .exit)) (now (colour .exit)) ≡ step (taking p side) (state (now (left .entry)) (now (right .entry)) (now (colour .entry)) x) ⌝ }
+    ensures { λ r. ⌜ leaves r left right colour
+        ≡ step (taking p side) (given left right colour x) ⌝ }
 {
-    let code = take_code(left.len(), right.len(), colour.len(), x, p, side);
+    let code = places::edit_code(left.len(), right.len(), colour.len(), x, p, side, 0);
     if code != 0 {
-        return Made {
-            answer: Answer::Refused(code, 0),
-            rec: x,
-        };
+        return rules::refusal(code, 0, x);
     }
     take_from(left, right, colour, x, p, side)
 }

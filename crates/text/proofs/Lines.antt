@@ -1,7 +1,7 @@
 -- The pieces of a line, byte by byte.
 use Prim.Native.Nat.{ℕ, zero, suc, _+_, _-_, _*_, _%_, _^_, _<_, _≤_}
 use mathlib.Core.Bool.{Bool, true, false}
-use mathlib.Core.Path.{_≡_, refl, sym, subst, _∙_}
+use mathlib.Core.Path.{_≡_, refl, sym}
 use mathlib.Core.List.{List, [], _∷_}
 use native.Mathlib.Omega.{arith}
 use native.Mathlib.Nat.{pow-suc, pow-le-pow-right, zero-mul, one-mul}
@@ -12,7 +12,8 @@ use lib.Seq.{drop-cons}
 use lib.Dec.{ltb, eqb}
 use Rattle.base.specs.Choice.{pick}
 use Rattle.base.proofs.Tests.{split, facts, each}
-use Rattle.text.specs.Grammar.{byteAt, lost, after, isDigit, digitsAt, number, sideAt, side, lettersAt, turns}
+use Rattle.text.specs.Grammar.{byteAt, lost, after, isDigit, digitsAt, number, sideAt, side}
+use Rattle.text.specs.Grammar.{lettersAt, turns}
 use Rattle.text.specs.declared.Side.{Side}
 
 pub there : (line : List ℕ) (i : ℕ) → i < length line → getD line i 0 ≡ byteAt line i
@@ -45,7 +46,8 @@ small more n h e =
     let p = pow-le-pow-right {n = 10} (omega arith) {i = 7 - more} {j = 6} (omega arith) in
     omega arith
 
-pub longer : (more n d : ℕ) → 0 < more → more ≤ 7 → n < 10 ^ (7 - more) → d ≤ 9 → n * 10 + d < 10 ^ (7 - (more - 1))
+pub longer : (more n d : ℕ) → 0 < more → more ≤ 7 → n < 10 ^ (7 - more) → d ≤ 9
+    → n * 10 + d < 10 ^ (7 - (more - 1))
 longer more n d h k e s =
     let q : 7 - (more - 1) ≡ suc (7 - more) = omega arith in
     rw (q, pow-suc) (omega arith)
@@ -59,7 +61,8 @@ part (suc s) bit h k =
 
 module _ (line : List ℕ) where
   pub word-turn : (i k : ℕ) (word : List ℕ) → k < length word
-      → after line i (drop k word) ≡ pick (eqb (byteAt line i) (getD word k 0)) (after line (i + 1) (drop (k + 1) word)) lost
+      → after line i (drop k word) ≡ pick (eqb (byteAt line i) (getD word k 0))
+      (after line (i + 1) (drop (k + 1) word)) lost
   unfolding after
   word-turn i k word h = rw (drop-cons word k 0 h, add-one k)
 
@@ -68,7 +71,8 @@ module _ (line : List ℕ) where
   word-done i k word h = rw (drop-of-length-le word h)
 
   pub digits-turn : (more n i : ℕ) → 0 < more
-      → digitsAt line more n i ≡ pick (isDigit (byteAt line i)) (digitsAt line (more - 1) (n * 10 + (byteAt line i - 48)) (i + 1)) (number n i)
+      → digitsAt line more n i ≡ pick (isDigit (byteAt line i))
+      (digitsAt line (more - 1) (n * 10 + (byteAt line i - 48)) (i + 1)) (number n i)
   unfolding digitsAt
   digits-turn zero n i h = absurd (omega arith)
   digits-turn (suc more) n i h = rw sub-one
@@ -80,12 +84,14 @@ module _ (line : List ℕ) where
 
   pub letters-turn : (more n word bit i : ℕ) → 0 < more
       → lettersAt line more n word bit i ≡ pick (eqb (sideAt line i .at) lost) (turns n word i)
-      (lettersAt line (more - 1) (n + 1) ((word + sideAt line i .side * bit) % 4096) (bit * 2 % 4096) (sideAt line i .at))
+      (lettersAt line (more - 1) (n + 1) ((word + sideAt line i .side * bit) % 4096)
+      (bit * 2 % 4096) (sideAt line i .at))
   unfolding lettersAt
   letters-turn zero n word bit i h = absurd (omega arith)
   letters-turn (suc more) n word bit i h = rw sub-one
 
-  pub letters-done : (more n word bit i : ℕ) → more ≤ 0 → turns n word i ≡ lettersAt line more n word bit i
+  pub letters-done : (more n word bit i : ℕ) → more ≤ 0 → turns n word i
+      ≡ lettersAt line more n word bit i
   unfolding lettersAt
   letters-done zero n word bit i h = refl
   letters-done (suc more) n word bit i h = absurd (omega arith)

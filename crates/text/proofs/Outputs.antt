@@ -9,13 +9,15 @@ use lib.ListN.{length, getD, drop, set, drop-of-length-le, length-append, length
 use lib.Seq.{drop-cons, take-suc-set, append-snoc}
 use Rattle.base.specs.Choice.{pick}
 use Rattle.base.proofs.Tests.{split}
-use Rattle.text.specs.Answers.{digitOf, decimal, said, Written, written, contents, put, putAll}
+use Rattle.text.specs.Answers.{digitOf, decimal, said, Written, written, contents, put}
+use Rattle.text.specs.Answers.{putAll, widest}
 
 pub put-none : (w : Written) → w ≡ putAll w []
 unfolding putAll
 put-none w = refl
 
-pub put-turn : (w : Written) (k : ℕ) (word : List ℕ) → k < length word → putAll w (drop k word) ≡ putAll (put w (getD word k 0)) (drop (k + 1) word)
+pub put-turn : (w : Written) (k : ℕ) (word : List ℕ) → k < length word → putAll w (drop k word)
+    ≡ putAll (put w (getD word k 0)) (drop (k + 1) word)
 unfolding putAll
 put-turn w k word h = rw (drop-cons word k 0 h, add-one k)
 
@@ -28,7 +30,8 @@ unfolding putAll
 put-append w [] ys = refl
 put-append w (x ∷ xs) ys = put-append (put w x) xs ys
 
-put-room : (w : Written) (b : ℕ) → w .used < length (w .out) → put w b ≡ written (set (w .out) (w .used) b) (w .used + 1)
+put-room : (w : Written) (b : ℕ) → w .used < length (w .out) → put w b
+    ≡ written (set (w .out) (w .used) b) (w .used + 1)
 unfolding put pick
 put-room w b h = rw (lt-ltb _ _ h)
 
@@ -45,15 +48,27 @@ pub record Longer (w : Written) (bs : List ℕ) (v : Written) : Type 0 where
 pub put-longer : (w : Written) (b : ℕ) → w .used < length (w .out) → Longer w (b ∷ []) (put w b)
 put-longer w b h =
     rw (put-room w b h)
-    (record { size = simp length-set; used = refl; holds = rw (add-one (w .used)) (take-suc-set (w .out) (w .used) b h) })
+    (record {
+      size = simp length-set;
+      used = refl;
+      holds = rw (add-one (w .used))
+          (take-suc-set (w .out) (w .used) b h);
+    })
 
-pub longer : (bs : List ℕ) (w : Written) → w .used + length bs ≤ length (w .out) → Longer w bs (putAll w bs)
+pub longer : (bs : List ℕ) (w : Written) → w .used + length bs ≤ length (w .out)
+    → Longer w bs (putAll w bs)
 unfolding putAll
 longer [] w h = record { size = refl; used = omega arith; holds = sym (append-nil (contents w)) }
 longer (b ∷ bs) w h =
     let p = put-longer w b (omega arith) in
     let q = longer bs (put w b) (omega arith) in
-    record { size = q .size ∙ p .size; used = omega arith; holds = q .holds ∙ rw (p .holds) (append-snoc (contents w) b bs) }
+    record {
+      size =
+          q .size ∙ p .size;
+      used = omega arith;
+      holds = q .holds
+          ∙ rw (p .holds) (append-snoc (contents w) b bs);
+    }
 
 digit-short : (n ten : ℕ) → length (digitOf n ten) ≤ 1
 unfolding digitOf
@@ -61,9 +76,17 @@ digit-short n ten = split (λ (l : List ℕ). length l ≤ 1) _ _ _ (λ _. omega
 
 decimal-short : (n : ℕ) → length (decimal n) ≤ 5
 unfolding decimal
-decimal-short n = simp length-append (omega (arith, digit-short n 10000, digit-short n 1000, digit-short n 100, digit-short n 10))
+decimal-short n =
+    simp length-append
+    (omega (
+      arith,
+      digit-short n 10000,
+      digit-short n 1000,
+      digit-short n 100,
+      digit-short n
+          10,
+    ))
 
--- an answer's line fits into 22 bytes
-pub said-short : (code node : ℕ) → length (said code node) ≤ 22
+pub said-short : (code node : ℕ) → length (said code node) ≤ widest
 unfolding said
 said-short code node = simp length-append (omega (arith, decimal-short code, decimal-short node))

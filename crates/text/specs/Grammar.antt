@@ -1,5 +1,6 @@
--- A line of a schedule: its bytes to what it says. Document 01, "The schedule program".
--- Each piece reads from a position and gives the position behind it: `lost` where the piece does not stand there, and at `lost` nothing stands.
+-- A line of a schedule: its bytes to what it says. The section Program of docs/RULES.md. Each piece
+-- reads from a position and gives the position behind it: `lost` where the piece does not stand
+-- there, and at `lost` nothing stands.
 use Rattle.base.specs.Choice.{pick, every}
 use Prim.Native.Nat.{ℕ, zero, suc, _+_, _-_, _*_, _%_}
 use mathlib.Core.Bool.{Bool}
@@ -22,7 +23,11 @@ use Rattle.text.specs.declared.Form.{Form}
 unfoldable pub byteAt : List ℕ → ℕ → ℕ
 byteAt line i = getD line i 256
 
--- past the end of every line of at most 80 bytes
+-- the bytes of a line at most
+abbrev pub longest : ℕ
+longest = 80
+
+-- past the end of every line
 abbrev pub lost : ℕ
 lost = 81
 
@@ -41,35 +46,40 @@ isDigit b = every (leb 48 b ∷ leb b 57 ∷ [])
 unfoldable pub digitsAt : List ℕ → ℕ → ℕ → ℕ → Number
 digitsAt line zero n i = number n i
 digitsAt line (suc more) n i =
-    pick (isDigit (byteAt line i)) (digitsAt line more (n * 10 + (byteAt line i - 48)) (i + 1)) (number n i)
+    pick (isDigit (byteAt line i)) (digitsAt line more (n * 10 + (byteAt line i - 48)) (i + 1))
+    (number n i)
 
--- "Numbers are decimal, no leading zero, at most 7 digits."
+-- [Program 4] a number
 unfoldable pub numberAt : List ℕ → ℕ → Number
 numberAt line i =
-    pick (isDigit (byteAt line i)) (pick (eqb (byteAt line i) 48) (number 0 (i + 1)) (digitsAt line 7 0 i)) (number 0 lost)
+    pick (isDigit (byteAt line i)) (pick (eqb (byteAt line i) 48) (number 0 (i + 1))
+    (digitsAt line 7 0 i)) (number 0 lost)
 
 abbrev pub side : ℕ → ℕ → Side
 side s i = record { side = s; at = i }
 
--- a letter L or R; "A side is 0 left or 1 right."
+-- [Program 6] a letter L or R, and its side [Table 12]
 unfoldable pub sideAt : List ℕ → ℕ → Side
-sideAt line i = pick (eqb (byteAt line i) 76) (side 0 (i + 1)) (pick (eqb (byteAt line i) 82) (side 1 (i + 1)) (side 0 lost))
+sideAt line i =
+    pick (eqb (byteAt line i) 76) (side 0 (i + 1))
+    (pick (eqb (byteAt line i) 82) (side 1 (i + 1)) (side 0 lost))
 
 abbrev pub turns : ℕ → ℕ → ℕ → Turns
 turns n word i = record { count = n; word = word; at = i }
 
--- letters: "bit j, lowest first, is turn j"; all are counted, and the word is that of the first twelve
+-- letters, turn 0 first [Places 2]; all are counted, and the word is that of the first twelve
 unfoldable pub lettersAt : List ℕ → ℕ → ℕ → ℕ → ℕ → ℕ → Turns
 lettersAt line zero n word bit i = turns n word i
 lettersAt line (suc more) n word bit i =
     pick (eqb (sideAt line i .at) lost) (turns n word i)
-    (lettersAt line more (n + 1) ((word + sideAt line i .side * bit) % 4096) (bit * 2 % 4096) (sideAt line i .at))
+    (lettersAt line more (n + 1) ((word + sideAt line i .side * bit) % 4096) (bit * 2 % 4096)
+    (sideAt line i .at))
 
--- "Turns are letters L and R, `-` for none."
+-- [Program 5] turns
 unfoldable pub turnsAt : List ℕ → ℕ → Turns
 turnsAt line i =
     pick (eqb (byteAt line i) 45) (turns 0 0 (i + 1))
-    (pick (eqb (sideAt line i .at) lost) (turns 0 0 lost) (lettersAt line 80 0 0 1 i))
+    (pick (eqb (sideAt line i .at) lost) (turns 0 0 lost) (lettersAt line longest 0 0 1 i))
 
 -- a slot, a word and turns
 unfoldable pub placeAt : List ℕ → ℕ → List ℕ → Spot
@@ -81,6 +91,7 @@ placeAt line i word =
 abbrev pub place : Spot → Place
 place p = record { slot = p .slot; count = p .count; word = p .word }
 
+-- [Program 3] the forms of a line after the first
 unfoldable pub takeLine : List ℕ → Form
 takeLine line =
     let p = placeAt line (after line 0 (bytes "op=take slot=")) (bytes " turns=") in
@@ -105,24 +116,24 @@ lookLine line =
 unfoldable pub collectLine : List ℕ → Number
 collectLine line = numberAt line (after line 0 (bytes "op=collect count="))
 
--- "First line `nodes=` `slots=`"
+-- [Program 2] the form of the first line
 unfoldable pub firstLine : List ℕ → Sizes
 firstLine line =
     let m = numberAt line (after line 0 (bytes "nodes=")) in
     let r = numberAt line (after line (m .at) (bytes " slots=")) in
     record { nodes = m .value; slots = r .value; at = r .at }
 
--- "`collect` makes that many collector steps (0 to 1,000,000)"; "not of this form (a larger collect count too)"
+-- [Program 7] the largest count; [Program 9] a larger one is not of the form
 unfoldable pub counted : ℕ → Said
 counted n = pick (leb n 1000000) (Collect n) Unreadable
 
 abbrev pub ends : List ℕ → ℕ → Bool
 ends line at = eqb at (length line)
 
--- the form whose last position is the line's end; "A line over 80 bytes, its newline not counted, or not of this form"
+-- the form whose last position is the line's end; [Program 8] a line of at most 80 bytes
 unfoldable pub read : List ℕ → Said
 read line =
-    pick (ltb 80 (length line)) Unreadable
+    pick (ltb longest (length line)) Unreadable
     (pick (ends line (takeLine line .at)) (Do (takeLine line .step))
     (pick (ends line (linkLine line .at)) (Do (linkLine line .step))
     (pick (ends line (shadeLine line .at)) (Do (shadeLine line .step))

@@ -1,10 +1,30 @@
-// A schedule's text: a line's bytes to what it says, and an answer to its line of bytes. Document 01's grammar as definitions is in specs/.
+// A schedule's text: a line's bytes to what it says, and an answer to its line of bytes. The forms
+// of the lines are definitions in specs/.
 use rules::Step;
 ghost use mathlib.Core.Path.{_≡_};
 ghost use Prim.Native.Nat.{_<_};
-ghost use Rattle.text.specs.Bytes.{bytes};
-ghost use Rattle.text.specs.Grammar.{byteAt, after, isDigit, digitsAt, numberAt, sideAt, lettersAt, turnsAt, placeAt, takeLine, linkLine, shadeLine, lookLine, collectLine, firstLine, counted, read};
+ghost use Rattle.text.specs.Grammar.{byteAt, after, isDigit, digitsAt, numberAt, sideAt};
+ghost use Rattle.text.specs.Grammar.{lettersAt, turnsAt, placeAt, takeLine, linkLine};
+ghost use Rattle.text.specs.Grammar.{shadeLine, lookLine, collectLine, firstLine, counted};
+ghost use Rattle.text.specs.Grammar.{read};
 ghost use Rattle.text.specs.Answers.{digitOf, decimal, said, written, put, putAll};
+ghost use Rattle.base.specs.Lent.{was, is};
+
+// The bytes of a line at most, and a position past the end of each line.
+const LONGEST: usize = 80;
+
+const LOST: usize = 81;
+
+// The letters of turns at most: as many as a line has bytes.
+const LETTERS: u32 = 80;
+
+// The digits of a number at most, and the collector steps of a line.
+const DIGITS: u32 = 7;
+
+const COUNT: u32 = 1000000;
+
+// One more than the largest word of twelve turns.
+const WORDS: u32 = 4096;
 
 // What a line says.
 pub enum Said {
@@ -56,7 +76,7 @@ pub struct Form {
 
 // The byte at a position; 256 past the end.
 fn byte_at(line: &[u8], i: usize) -> u16
-    ensures { λ b. ⌜ b ≡ byteAt (now (line .entry)) i ⌝ }
+    ensures { λ b. ⌜ b ≡ byteAt (was line) i ⌝ }
 {
     if i < line.len() {
         return line[i] as u16;
@@ -64,15 +84,15 @@ fn byte_at(line: &[u8], i: usize) -> u16
     256
 }
 
-// The position behind a word that stands at i; 81 where it does not.
+// The position behind a word that stands at i; LOST where it does not.
 fn after(line: &[u8], i: usize, word: &[u8]) -> usize
-    ensures { λ r. ⌜ r ≡ after (now (line .entry)) i (now (word .entry)) ⌝ }
+    ensures { λ r. ⌜ r ≡ after (was line) i (was word) ⌝ }
 {
     let mut at = i;
     let mut k = 0;
     while k < word.len() {
         if byte_at(line, at) != word[k] as u16 {
-            return 81;
+            return LOST;
         }
         at += 1;
         k += 1;
@@ -90,11 +110,11 @@ fn is_digit(b: u16) -> bool
 }
 
 fn digits_at(line: &[u8], i: usize) -> Number
-    ensures { λ r. ⌜ r ≡ digitsAt (now (line .entry)) 7 0 i ⌝ }
+    ensures { λ r. ⌜ r ≡ digitsAt (was line) 7 0 i ⌝ }
 {
     let mut n: u32 = 0;
     let mut at = i;
-    let mut more: u32 = 7;
+    let mut more: u32 = DIGITS;
     while 0 < more {
         let b = byte_at(line, at);
         if !is_digit(b) {
@@ -108,11 +128,11 @@ fn digits_at(line: &[u8], i: usize) -> Number
 }
 
 fn number_at(line: &[u8], i: usize) -> Number
-    ensures { λ r. ⌜ r ≡ numberAt (now (line .entry)) i ⌝ }
+    ensures { λ r. ⌜ r ≡ numberAt (was line) i ⌝ }
 {
     let b = byte_at(line, i);
     if !is_digit(b) {
-        return Number { value: 0, at: 81 };
+        return Number { value: 0, at: LOST };
     }
     if b == 48 {
         return Number {
@@ -124,7 +144,7 @@ fn number_at(line: &[u8], i: usize) -> Number
 }
 
 fn side_at(line: &[u8], i: usize) -> Side
-    ensures { λ r. ⌜ r ≡ sideAt (now (line .entry)) i ⌝ }
+    ensures { λ r. ⌜ r ≡ sideAt (was line) i ⌝ }
 {
     let b = byte_at(line, i);
     if b == 76 {
@@ -133,25 +153,25 @@ fn side_at(line: &[u8], i: usize) -> Side
     if b == 82 {
         return Side { side: 1, at: i + 1 };
     }
-    Side { side: 0, at: 81 }
+    Side { side: 0, at: LOST }
 }
 
 fn letters_at(line: &[u8], i: usize) -> Turns
-    ensures { λ r. ⌜ r ≡ lettersAt (now (line .entry)) 80 0 0 1 i ⌝ }
+    ensures { λ r. ⌜ r ≡ lettersAt (was line) 80 0 0 1 i ⌝ }
 {
     let mut count: u32 = 0;
     let mut word: u32 = 0;
     let mut bit: u32 = 1;
     let mut at = i;
-    let mut more: u32 = 80;
+    let mut more = LETTERS;
     while 0 < more {
         let s = side_at(line, at);
-        if s.at == 81 {
+        if s.at == LOST {
             return Turns { count, word, at };
         }
         count += 1;
-        word = (word + s.side * bit) % 4096;
-        bit = bit * 2 % 4096;
+        word = (word + s.side * bit) % WORDS;
+        bit = bit * 2 % WORDS;
         at = s.at;
         more -= 1;
     }
@@ -159,7 +179,7 @@ fn letters_at(line: &[u8], i: usize) -> Turns
 }
 
 fn turns_at(line: &[u8], i: usize) -> Turns
-    ensures { λ r. ⌜ r ≡ turnsAt (now (line .entry)) i ⌝ }
+    ensures { λ r. ⌜ r ≡ turnsAt (was line) i ⌝ }
 {
     if byte_at(line, i) == 45 {
         return Turns {
@@ -169,18 +189,18 @@ fn turns_at(line: &[u8], i: usize) -> Turns
         };
     }
     let s = side_at(line, i);
-    if s.at == 81 {
+    if s.at == LOST {
         return Turns {
             count: 0,
             word: 0,
-            at: 81,
+            at: LOST,
         };
     }
     letters_at(line, i)
 }
 
 fn place_at(line: &[u8], i: usize, word: &[u8]) -> Spot
-    ensures { λ r. ⌜ r ≡ placeAt (now (line .entry)) i (now (word .entry)) ⌝ }
+    ensures { λ r. ⌜ r ≡ placeAt (was line) i (was word) ⌝ }
 {
     let slot = number_at(line, i);
     let path = turns_at(line, after(line, slot.at, word));
@@ -193,7 +213,7 @@ fn place_at(line: &[u8], i: usize, word: &[u8]) -> Spot
 }
 
 fn take_line(line: &[u8]) -> Form
-    ensures { λ r. ⌜ r ≡ takeLine (now (line .entry)) ⌝ }
+    ensures { λ r. ⌜ r ≡ takeLine (was line) ⌝ }
 {
     let p = place_at(line, after(line, 0, b"op=take slot="), b" turns=");
     let s = side_at(line, after(line, p.at, b" side="));
@@ -211,7 +231,7 @@ fn take_line(line: &[u8]) -> Form
 }
 
 fn link_line(line: &[u8]) -> Form
-    ensures { λ r. ⌜ r ≡ linkLine (now (line .entry)) ⌝ }
+    ensures { λ r. ⌜ r ≡ linkLine (was line) ⌝ }
 {
     let p = place_at(line, after(line, 0, b"op=link slot="), b" turns=");
     let s = side_at(line, after(line, p.at, b" side="));
@@ -230,7 +250,7 @@ fn link_line(line: &[u8]) -> Form
 }
 
 fn shade_line(line: &[u8]) -> Form
-    ensures { λ r. ⌜ r ≡ shadeLine (now (line .entry)) ⌝ }
+    ensures { λ r. ⌜ r ≡ shadeLine (was line) ⌝ }
 {
     let at = after(line, 0, b"op=shade");
     let step = Step {
@@ -247,7 +267,7 @@ fn shade_line(line: &[u8]) -> Form
 }
 
 fn look_line(line: &[u8]) -> Form
-    ensures { λ r. ⌜ r ≡ lookLine (now (line .entry)) ⌝ }
+    ensures { λ r. ⌜ r ≡ lookLine (was line) ⌝ }
 {
     let p = place_at(line, after(line, 0, b"op=look slot="), b" turns=");
     let step = Step {
@@ -264,13 +284,13 @@ fn look_line(line: &[u8]) -> Form
 }
 
 fn collect_line(line: &[u8]) -> Number
-    ensures { λ r. ⌜ r ≡ collectLine (now (line .entry)) ⌝ }
+    ensures { λ r. ⌜ r ≡ collectLine (was line) ⌝ }
 {
     number_at(line, after(line, 0, b"op=collect count="))
 }
 
 fn first_line(line: &[u8]) -> Sizes
-    ensures { λ r. ⌜ r ≡ firstLine (now (line .entry)) ⌝ }
+    ensures { λ r. ⌜ r ≡ firstLine (was line) ⌝ }
 {
     let m = number_at(line, after(line, 0, b"nodes="));
     let r = number_at(line, after(line, m.at, b" slots="));
@@ -284,7 +304,7 @@ fn first_line(line: &[u8]) -> Sizes
 fn counted(n: u32) -> Said
     ensures { λ r. ⌜ r ≡ counted n ⌝ }
 {
-    if n <= 1000000 {
+    if n <= COUNT {
         return Said::Collect(n);
     }
     Said::Unreadable
@@ -292,10 +312,10 @@ fn counted(n: u32) -> Said
 
 // What a line says; a line over 80 bytes is unreadable.
 pub fn read(line: &[u8]) -> Said
-    ensures { λ r. ⌜ r ≡ read (now (line .entry)) ⌝ }
+    ensures { λ r. ⌜ r ≡ read (was line) ⌝ }
 {
     let end = line.len();
-    if 80 < end {
+    if LONGEST < end {
         return Said::Unreadable;
     }
     let take = take_line(line);
@@ -331,7 +351,7 @@ pub fn read(line: &[u8]) -> Said
 
 // One byte more of the output, where there is room; answers how much is used.
 pub fn put(out: &mut [u8], used: usize, b: u8) -> usize
-    ensures { λ r. ⌜ written (now (out .exit)) r ≡ put (written (now (out .entry)) used) b ⌝ }
+    ensures { λ r. ⌜ written (is out) r ≡ put (written (was out) used) b ⌝ }
 {
     if used < out.len() {
         out[used] = b;
@@ -342,7 +362,7 @@ pub fn put(out: &mut [u8], used: usize, b: u8) -> usize
 
 // Bytes more of the output, as far as there is room; answers how much is used.
 pub fn put_all(out: &mut [u8], used: usize, word: &[u8]) -> usize
-    ensures { λ r. ⌜ written (now (out .exit)) r ≡ putAll (written (now (out .entry)) used) (now (word .entry)) ⌝ }
+    ensures { λ r. ⌜ written (is out) r ≡ putAll (written (was out) used) (was word) ⌝ }
 {
     let mut at = used;
     let mut k = 0;
@@ -355,7 +375,7 @@ pub fn put_all(out: &mut [u8], used: usize, word: &[u8]) -> usize
 
 fn digit(out: &mut [u8], used: usize, n: u16, ten: u16) -> usize
     requires { ⌜ 0 < ten ⌝ }
-    ensures { λ r. ⌜ written (now (out .exit)) r ≡ putAll (written (now (out .entry)) used) (digitOf n ten) ⌝ }
+    ensures { λ r. ⌜ written (is out) r ≡ putAll (written (was out) used) (digitOf n ten) ⌝ }
 {
     if n < ten {
         return used;
@@ -364,7 +384,7 @@ fn digit(out: &mut [u8], used: usize, n: u16, ten: u16) -> usize
 }
 
 fn decimal(out: &mut [u8], used: usize, n: u16) -> usize
-    ensures { λ r. ⌜ written (now (out .exit)) r ≡ putAll (written (now (out .entry)) used) (decimal n) ⌝ }
+    ensures { λ r. ⌜ written (is out) r ≡ putAll (written (was out) used) (decimal n) ⌝ }
 {
     let a = digit(out, used, n, 10000);
     let b = digit(out, a, n, 1000);
@@ -373,9 +393,10 @@ fn decimal(out: &mut [u8], used: usize, n: u16) -> usize
     put(out, d, 48 + (n % 10) as u8)
 }
 
-// Puts an answer's line behind the bytes of the output that are used, as far as there is room; answers how many are used then.
+// Puts an answer's line behind the bytes of the output that are used, as far as there is room;
+// answers how many are used then.
 pub fn say(out: &mut [u8], used: usize, code: u8, node: u16) -> usize
-    ensures { λ r. ⌜ written (now (out .exit)) r ≡ putAll (written (now (out .entry)) used) (said code node) ⌝ }
+    ensures { λ r. ⌜ written (is out) r ≡ putAll (written (was out) used) (said code node) ⌝ }
 {
     let a = put_all(out, used, b"code=");
     let b = decimal(out, a, code as u16);

@@ -1,4 +1,4 @@
--- Feeding, byte by byte and line by line.
+-- A line at once is as good as its bytes.
 use Prim.Native.Nat.{ℕ, suc, _+_, _-_, _<_, _≤_}
 use mathlib.Core.Bool.{Bool, true, false}
 use mathlib.Core.Path.{_≡_, refl, _∙_}
@@ -8,38 +8,18 @@ use native.Mathlib.Nat.{sub-self}
 use native.Mathlib.Numerals.{add-one}
 use lib.ListN.{length, getD, take, drop, drop-of-length-le, length-drop}
 use lib.Seq.{drop-cons, drop-drop, getD-drop}
-use lib.Dec.{leb, eqb, ltb}
-use borrow.Author.Tests.{le-leb, eqb-true, ltb-true, ltb-false}
+use lib.Dec.{eqb, ltb}
+use borrow.Author.Tests.{eqb-true, ltb-true, ltb-false}
 use Rattle.base.specs.Choice.{pick}
 use Rattle.base.proofs.Tests.{split}
 use Rattle.text.specs.Answers.{putAll}
 use Rattle.transcript.specs.Transcript.{newline}
-use Rattle.transcript.specs.Feeding.{Going, Taken, ended, nextByte, taken, feed, newlineFrom, gathered, nextLine}
-
-pub fed-turn : (input : List ℕ) (i : ℕ) (g : Going) → i < length input
-    → feed (drop i input) i g ≡ pick (leb (g .out .used) 65514) (feed (drop (i + 1) input) (i + 1) (nextByte g (getD input i 0))) (taken i g)
-unfolding feed
-fed-turn input i g h = rw (drop-cons input i 0 h, add-one i)
-
-pub fed-all : (input : List ℕ) (i : ℕ) (g : Going) → length input ≤ i → taken i g ≡ feed (drop i input) i g
-unfolding feed
-fed-all input i g h = rw (drop-of-length-le input h)
-
-pub least : (input : List ℕ) (i : ℕ) (g : Going) → i ≤ feed input i g .next
-unfolding feed
-least [] i g = omega arith
-least (b ∷ input) i g =
-    split (λ (f : Taken). i ≤ f .next) _ _ _ (λ e. let h = least input (i + 1) (nextByte g b) in omega arith) (λ e. omega arith)
-
--- where there is room, a byte is taken
-pub gains : (input : List ℕ) (i : ℕ) (g : Going) (f : Taken) → f ≡ feed (drop i input) i g → i < length input → g .out .used ≤ 65514 → i < f .next
-unfolding pick
-gains input i g f e h k =
-    let m = least (drop (i + 1) input) (i + 1) (nextByte g (getD input i 0)) in
-    rw (e, fed-turn input i g h, le-leb _ _ k) (omega arith)
+use Rattle.transcript.specs.Feeding.{fold, Going, Taken, ended, nextByte, taken, newlineFrom}
+use Rattle.transcript.specs.Feeding.{gathered, nextLine}
 
 pub newline-turn : (input : List ℕ) (i : ℕ) → i < length input
-    → newlineFrom (drop i input) i ≡ pick (eqb (getD input i 0) 10) i (newlineFrom (drop (i + 1) input) (i + 1))
+    → newlineFrom (drop i input) i ≡ pick (eqb (getD input i 0) 10) i
+    (newlineFrom (drop (i + 1) input) (i + 1))
 unfolding newlineFrom
 newline-turn input i h = rw (drop-cons input i 0 h, add-one i)
 
@@ -50,75 +30,127 @@ newline-none input i h = rw (drop-of-length-le input h)
 pub behind : (input : List ℕ) (i : ℕ) → i ≤ newlineFrom input i
 unfolding newlineFrom
 behind [] i = omega arith
-behind (b ∷ input) i = split (λ (n : ℕ). i ≤ n) _ _ _ (λ _. omega arith) (λ _. let h = behind input (i + 1) in omega arith)
+behind (b ∷ input) i = split (λ (n : ℕ). i ≤ n) _ _ _ (λ _. omega arith)
+    (λ _. let h = behind input (i + 1) in omega arith)
 
 within : (input : List ℕ) (i : ℕ) → newlineFrom input i ≤ i + length input
 unfolding newlineFrom
 within [] i = omega arith
-within (b ∷ input) i = split (λ (n : ℕ). n ≤ i + suc (length input)) _ _ _ (λ _. omega arith) (λ _. let h = within input (i + 1) in omega arith)
+within (b ∷ input) i = split (λ (n : ℕ). n ≤ i + suc (length input)) _ _ _ (λ _. omega arith)
+    (λ _. let h = within input (i + 1) in omega arith)
 
 -- e is what `newline_from` found
-pub found : (input : List ℕ) (i e : ℕ) → e ≡ newlineFrom (drop i input) i → i < length input → (i ≤ e) × (e ≤ length input)
-found input i e q h = omega (arith, behind (drop i input) i, within (drop i input) i, length-drop i input)
+pub found : (input : List ℕ) (i e : ℕ) → e ≡ newlineFrom (drop i input) i → i < length input
+    → (i ≤ e) × (e ≤ length input)
+found input i e q h =
+    omega (arith, behind (drop i input) i, within (drop i input) i, length-drop i input)
+
+pub found-first : (input : List ℕ) (e : ℕ) → e ≡ newlineFrom input 0 → e ≤ length input
+found-first input e q = omega (arith, within input 0)
 
 -- a newline stands where one is found
-stands : (input : List ℕ) (i : ℕ) → newlineFrom input i - i < length input → getD input (newlineFrom input i - i) 0 ≡ newline
+stands : (input : List ℕ) (i : ℕ) → newlineFrom input i - i < length input
+    → getD input (newlineFrom input i - i) 0 ≡ newline
 unfolding newlineFrom pick
 stands [] i h = absurd (omega arith)
 stands (b ∷ input) i h = go (eqb b newline) refl (stands input (i + 1)) (behind input (i + 1)) h
   where
-    go : (t : Bool) → eqb b newline ≡ t → (newlineFrom input (i + 1) - (i + 1) < length input → getD input (newlineFrom input (i + 1) - (i + 1)) 0 ≡ newline)
-        → i + 1 ≤ newlineFrom input (i + 1) → newlineFrom (b ∷ input) i - i < length (b ∷ input) → getD (b ∷ input) (newlineFrom (b ∷ input) i - i) 0 ≡ newline
+    go : (t : Bool) → eqb b newline ≡ t
+        → (newlineFrom input (i + 1) - (i + 1) < length input
+        → getD input (newlineFrom input (i + 1) - (i + 1)) 0 ≡ newline)
+        → i + 1 ≤ newlineFrom input (i + 1) → newlineFrom (b ∷ input) i - i < length (b ∷ input)
+        → getD (b ∷ input) (newlineFrom (b ∷ input) i - i) 0 ≡ newline
     go true e f l h = rw (e, sub-self) (eqb-true b newline e)
     go false e f l h =
-        let n : newlineFrom input (i + 1) - i ≡ suc (newlineFrom input (i + 1) - (i + 1)) = omega arith in
+        let n : newlineFrom input (i + 1) - i
+        ≡ suc (newlineFrom input (i + 1) - (i + 1)) = omega arith in
         let k = rw e at h in
         rw (e, n) (f (omega arith))
 
--- the bytes before a newline only go into the line
-over : (input : List ℕ) (i : ℕ) (g : Going) → g .out .used ≤ 65514
-    → feed input i g ≡ feed (drop (newlineFrom input i - i) input) (newlineFrom input i) (gathered g (take (newlineFrom input i - i) input))
-unfolding feed newlineFrom nextByte pick putAll
-over [] i g h = rw sub-self
-over (b ∷ input) i g h = go (eqb b newline) refl (over input (i + 1) (gathered g (b ∷ [])) h) (behind input (i + 1))
-  where
-    go : (t : Bool) → eqb b newline ≡ t
-        → feed input (i + 1) (gathered g (b ∷ [])) ≡ feed (drop (newlineFrom input (i + 1) - (i + 1)) input) (newlineFrom input (i + 1)) (gathered (gathered g (b ∷ [])) (take (newlineFrom input (i + 1) - (i + 1)) input))
-        → i + 1 ≤ newlineFrom input (i + 1)
-        → feed (b ∷ input) i g ≡ feed (drop (newlineFrom (b ∷ input) i - i) (b ∷ input)) (newlineFrom (b ∷ input) i) (gathered g (take (newlineFrom (b ∷ input) i - i) (b ∷ input)))
-    go true e f l = rw (e, sub-self, e)
-    go false e f l =
-        let n : newlineFrom input (i + 1) - i ≡ suc (newlineFrom input (i + 1) - (i + 1)) = omega arith in
-        rw (e, n, le-leb _ _ h) f
+-- f is a byte's turn, h g where the lines stand at g: while no newline comes, bytes only go into
+-- the line at hand
+module _ {B : Type 0} (f : B → ℕ → B) (h : Going → B)
+    (one : (g : Going) (b : ℕ) → eqb b newline ≡ false → f (h g) b ≡ h (gathered g (b ∷ []))) where
+  over : (input : List ℕ) (i : ℕ) (g : Going)
+      → fold f input (h g) ≡ fold f (drop (newlineFrom input i - i) input)
+      (h (gathered g (take (newlineFrom input i - i) input)))
+  unfolding fold newlineFrom pick putAll
+  over [] i g = rw sub-self
+  over (b ∷ input) i g = go (eqb b newline) refl (over input (i + 1) (gathered g (b ∷ [])))
+      (behind input (i + 1))
+    where
+      go : (t : Bool) → eqb b newline ≡ t
+          → fold f input (h (gathered g (b ∷ [])))
+          ≡ fold f (drop (newlineFrom input (i + 1) - (i + 1)) input)
+          (h (gathered (gathered g (b ∷ []))
+          (take (newlineFrom input (i + 1) - (i + 1)) input)))
+          → i + 1 ≤ newlineFrom input (i + 1)
+          → fold f (b ∷ input) (h g) ≡ fold f (drop (newlineFrom (b ∷ input) i - i) (b ∷ input))
+          (h (gathered g (take (newlineFrom (b ∷ input) i - i) (b ∷ input))))
+      go true e k l = rw (e, sub-self)
+      go false e k l =
+          let n : newlineFrom input (i + 1) - i
+          ≡ suc (newlineFrom input (i + 1) - (i + 1)) = omega arith in
+          rw (one g b e, e, n) k
 
-module _ (input : List ℕ) (i : ℕ) (g : Going) (f : Taken) (e : f ≡ nextLine input i g) (h : i < length input) where
-  pub line-gains : i < f .next
+  module _ (input : List ℕ) (i : ℕ) (g : Going) where
+    end : ℕ
+    end = newlineFrom (drop i input) i
+
+    lined : Going
+    lined = gathered g (take (end - i) (drop i input))
+
+    sum : i + (end - i) ≡ end
+    unfolding end
+    sum = let l = behind (drop i input) i in omega arith
+
+    -- up to the first newline from position i on
+    to-end : fold f (drop i input) (h g) ≡ fold f (drop end input) (h lined)
+    unfolding end lined
+    to-end = rw (drop-drop, sum) at (over (drop i input) i g)
+
+    pub line-fold : newlineFrom (drop i input) i < length input
+        → fold f (drop i input) (h g) ≡ fold f (drop (newlineFrom (drop i input) i + 1) input)
+        (f (h (gathered g (take (newlineFrom (drop i input) i - i) (drop i input)))) newline)
+    unfolding fold end lined
+    line-fold p =
+        let l = behind (drop i input) i in
+        let s = stands (drop i input) i (rw length-drop (omega arith)) in
+        to-end ∙ rw (drop-cons input end 0 p, rw (getD-drop, sum) at s, add-one end)
+
+    pub rest-fold : length input ≤ newlineFrom (drop i input) i
+        → fold f (drop i input) (h g) ≡ h
+        (gathered g (take (newlineFrom (drop i input) i - i) (drop i input)))
+    unfolding fold end lined
+    rest-fold p = to-end ∙ rw (drop-of-length-le input p)
+
+module _ (input : List ℕ) (i : ℕ) (g : Going) (f : Taken) (e : f ≡ nextLine input i g) where
+  pub line-gains : i < length input → i < f .next
   unfolding nextLine
-  line-gains =
+  line-gains h =
       let l = behind (drop i input) i in
-      rw e (split (λ (f : Taken). i < f .next) _ _ _ (λ _. omega arith) (λ q. omega (arith, ltb-false (newlineFrom (drop i input) i) (length input) q)))
+      rw e (split (λ (f : Taken). i < f .next) _ _ _ (λ _. omega arith)
+      (λ q. omega (arith, ltb-false (newlineFrom (drop i input) i) (length input) q)))
 
-  -- a line at once is as good as its bytes
-  pub line-turn : g .out .used ≤ 65514 → feed (drop i input) i g ≡ feed (drop (f .next) input) (f .next) (f .going)
-  unfolding nextLine nextByte pick
-  line-turn k = rw e (go (ltb n (length input)) refl)
+  gathers : (g : Going) (b : ℕ) → eqb b newline ≡ false → nextByte g b ≡ gathered g (b ∷ [])
+  unfolding nextByte pick
+  gathers g b q = rw q
+
+  pub line-turn : fold nextByte (drop i input) g ≡ fold nextByte (drop (f .next) input) (f .going)
+  unfolding fold nextLine nextByte pick
+  line-turn = rw e (go (ltb n (length input)) refl)
     where
       n : ℕ
       n = newlineFrom (drop i input) i
 
-      lined : Going
-      lined = gathered g (take (n - i) (drop i input))
-
-      sum : i + (n - i) ≡ n
-      sum = let l = behind (drop i input) i in omega arith
-
-      there : feed (drop i input) i g ≡ feed (drop n input) n lined
-      there = rw (drop-drop, sum) at (over (drop i input) i g k)
+      lines : Going
+      lines = gathered g (take (n - i) (drop i input))
 
       go : (t : Bool) → ltb n (length input) ≡ t
-          → feed (drop i input) i g ≡ feed (drop (pick t (taken (n + 1) (ended lined)) (taken n lined) .next) input) (pick t (taken (n + 1) (ended lined)) (taken n lined) .next) (pick t (taken (n + 1) (ended lined)) (taken n lined) .going)
-      go true q =
-          let p = ltb-true n (length input) q in
-          let s = stands (drop i input) i (rw length-drop (omega arith)) in
-          there ∙ fed-turn input n lined p ∙ rw (le-leb _ _ k, rw (getD-drop, sum) at s)
-      go false q = there
+          → fold nextByte (drop i input) g
+          ≡ fold nextByte (drop (pick t (taken (n + 1) (ended lines)) (taken n lines) .next)
+          input) (pick t (taken (n + 1) (ended lines)) (taken n lines) .going)
+      go true q = line-fold nextByte (λ g. g) gathers input i g (ltb-true n (length input) q)
+      go false q =
+          let p = ltb-false n (length input) q in
+          rest-fold nextByte (λ g. g) gathers input i g p ∙ rw (drop-of-length-le input p)

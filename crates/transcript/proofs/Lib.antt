@@ -1,4 +1,7 @@
-pub mod Feeds
 pub mod Kept
+pub mod Feeds
+pub mod Parts
+pub mod Stands
 pub mod Whole
-pub mod Opening
+pub mod Listing
+pub mod Determined

@@ -1,126 +1,414 @@
--- What is fed and finished prints the transcript.
-use Prim.Native.Nat.{ℕ, suc, _+_, _-_, _≤_}
+-- However the input is cut into blocks, what they print is the transcript.
+use Prim.Native.Nat.{ℕ, suc, _+_, _*_, _≤_}
 use mathlib.Core.Bool.{Bool, true, false}
 use mathlib.Core.Path.{_≡_, refl, sym, ap, _∙_}
-use mathlib.Core.List.{List, [], _∷_, _++_, append-assoc, append-nil}
+use mathlib.Core.List.{List, [], _∷_, _++_, append-assoc, append-nil, flatten}
 use native.Mathlib.Omega.{arith}
-use native.Mathlib.Nat.{sub-self}
-use borrow.Author.Tests.{leb-true, ltb-true, ltb-false}
-use lib.ListN.{length, drop}
-use lib.Seq.{length-take-le, take-at, drop-nil, drop-drop}
-use lib.Dec.{leb, eqb, ltb}
+use borrow.Author.Tests.{ltb-true, ltb-false, eqb-true}
+use lib.ListN.{length, take}
+use lib.Seq.{length-take-le, take-at}
+use lib.Dec.{eqb, ltb}
 use Rattle.base.specs.Choice.{pick}
 use Rattle.base.proofs.Tests.{split}
 use Rattle.rules.specs.Table.{State}
 use Rattle.text.specs.Grammar.{read}
-use Rattle.text.specs.Answers.{Written, contents, put}
+use Rattle.text.specs.Answers.{written, widest, contents, put, putAll}
 use Rattle.text.proofs.Outputs.{Longer, put-full, put-longer, longer, said-short}
-use Rattle.lines.specs.Lines.{later}
-use Rattle.transcript.specs.Transcript.{newline, printed, answers}
-use Rattle.transcript.specs.Feeding.{Going, Taken, taken, ended, nextByte, finished, feed}
-use Rattle.transcript.proofs.Kept.{kept}
-use Rattle.transcript.proofs.Feeds.{least}
+use Rattle.lines.specs.Lines.{Line, later, first, opened, entries}
+use Rattle.lines.proofs.Firsts.{Opens, opens-first}
+use Rattle.transcript.specs.Transcript.{newline, printed, answers, opening, transcript}
+use Rattle.transcript.specs.Feeding.{keeps, fold, Going, gathered, ended, nextByte, Stand}
+use Rattle.transcript.specs.Feeding.{placed, stand, begun, eaten, eats, emptied, block}
+use Rattle.transcript.specs.Feeding.{finish, shown, outputs, started}
+use Rattle.transcript.specs.declared.Stage.{Stage}
+use Rattle.transcript.specs.declared.Stage.the-variants.{Opening, Serving, Over}
+use Rattle.transcript.proofs.Kept.{kept, kept-first}
+use Rattle.transcript.proofs.Stands.{stands, begun-apart, over}
 
--- the buffers' sizes
-pub record Ready (g : Going) : Type 0 where
-  pub line-size : length (g .line .out) ≡ 81
-  pub line-used : g .line .used ≤ 81
-  pub out-size : length (g .out .out) ≡ 65536
+-- the buffers have their sizes, N that of the output, with room for n answers more
+pub record Fit (N n : ℕ) (g : Going) : Type 0 where
+  pub line-size : length (g .line .out) ≡ keeps
+  pub line-used : g .line .used ≤ keeps
+  pub out-size : length (g .out .out) ≡ N
+  pub room : g .out .used + widest * n ≤ N
 
--- what is printed already, and what is to be printed for the rest of the input
-abbrev pub all : Going → List ℕ → List ℕ
-all g input = contents (g .out) ++ answers (g .state) (contents (g .line)) input
+module _ (N n : ℕ) (g : Going) (f : Fit N (suc n) g) where
+  grown : (t : Line) → Longer (g .out) (printed t) (putAll (g .out) (printed t))
+  grown t = let k =
+      said-short (t .code) (t .node) in
+      longer (printed t) (g .out) (omega (arith, f .out-size, f .room))
 
-module _ (g : Going) (r : Ready g) (h : g .out .used ≤ 65514) where
-  grown : Longer (g .out) (printed (later (read (contents (g .line))) (g .state))) (ended g .out)
-  unfolding ended
-  grown = let k = said-short (later (read (contents (g .line))) (g .state) .code) (later (read (contents (g .line))) (g .state) .node) in longer _ (g .out) (omega (arith, r .out-size))
+  -- a line is answered, and the next begins
+  answered-fit : (t : Line) (s : State)
+      → Fit N n
+      (record { state = s; line = written (g .line .out) 0; out = putAll (g .out) (printed t) })
+  answered-fit t s =
+      let l = grown t in
+      let k = said-short (t .code) (t .node) in
+      record {
+        line-size = f .line-size;
+        line-used = omega arith;
+        out-size = l .size
+            ∙ f .out-size;
+        room = omega (arith, f .room, l .used);
+      }
 
-  ended-ready : Ready (ended g)
-  unfolding ended
-  ended-ready = record { line-size = r .line-size; line-used = omega arith; out-size = grown .size ∙ r .out-size }
+  -- a byte more, where the line has room for it
+  put-fit : (b : ℕ) → Fit N n (gathered g (b ∷ []))
+  unfolding putAll
+  put-fit b = go (ltb (g .line .used) keeps) refl
+    where
+      go : (t : Bool) → ltb (g .line .used) keeps ≡ t → Fit N n (gathered g (b ∷ []))
+      go true e =
+          let h = ltb-true (g .line .used) keeps e in
+          let l = put-longer (g .line) b (omega (arith, f .line-size)) in
+          record {
+            line-size = l .size ∙ f .line-size;
+            line-used = omega (arith, l .used);
+            out-size = f .out-size;
+            room = omega (arith, f .room);
+          }
+      go false e =
+          let h = ltb-false (g .line .used) keeps e in
+          rw (put-full (g .line) b (omega (arith, f .line-size)))
+          (record {
+            line-size = f .line-size;
+            line-used = f .line-used;
+            out-size = f .out-size;
+            room = omega (arith, f .room);
+          })
 
-  ended-all : (input : List ℕ) → all (ended g) input ≡ all g (newline ∷ input)
-  unfolding ended answers pick
-  ended-all input = rw (grown .holds, append-assoc)
+  -- F reads no more than 81 bytes of a line: a byte that there is no room for is not missed
+  kept-byte : (b : ℕ) (F : List ℕ → List ℕ) → ((w : List ℕ) → F (take keeps w) ≡ F w)
+      → F (contents (put (g .line) b)) ≡ F (contents (g .line) ++ (b ∷ []))
+  kept-byte b F k = go (ltb (g .line .used) keeps) refl
+    where
+      go : (t : Bool) → ltb (g .line .used) keeps ≡ t → F (contents (put (g .line) b))
+          ≡ F (contents (g .line) ++ (b ∷ []))
+      go true e =
+          let h = ltb-true (g .line .used) keeps e in
+          rw (put-longer (g .line) b (omega (arith, f .line-size)) .holds)
+      go false e =
+          let h = ltb-false (g .line .used) keeps e in
+          let m = length-take-le (g .line .used) (g .line .out) (omega (arith, f .line-size)) in
+          rw (put-full (g .line) b (omega (arith, f .line-size)))
+          (ap F
+          (sym (take-at (contents (g .line)) (b ∷ []) keeps (omega (arith, f .line-used))))
+          ∙ k (contents (g .line) ++ (b ∷ [])))
 
-kept-byte : (w : Written) (b : ℕ) (s : State) (input : List ℕ) → length (w .out) ≡ 81 → w .used ≤ 81
-    → answers s (contents (put w b)) input ≡ answers s (contents w ++ (b ∷ [])) input
-kept-byte w b s input p q = go (ltb (w .used) 81) refl
-  where
-    go : (t : Bool) → ltb (w .used) 81 ≡ t → answers s (contents (put w b)) input ≡ answers s (contents w ++ (b ∷ [])) input
-    go true e =
-        let h = ltb-true (w .used) 81 e in
-        rw (put-longer w b (omega arith) .holds)
-    go false e =
-        let h = ltb-false (w .used) 81 e in
-        let n = length-take-le (w .used) (w .out) (omega arith) in
-        rw (put-full w b (omega arith)) (ap (λ (l : List ℕ). answers s l input) (sym (take-at (contents w) (b ∷ []) 81 (omega arith))) ∙ kept s (contents w ++ (b ∷ [])) input)
+-- what is to be printed for the rest of the input, where this line is at hand
+abbrev pub pending : Stage → State → List ℕ → List ℕ → List ℕ
+pending Opening s line input = opening line input
+pending (Serving m) s line input = answers s line input
+pending Over s line input = []
 
-put-ready : (w : Written) (b : ℕ) → length (w .out) ≡ 81 → w .used ≤ 81 → (length (put w b .out) ≡ 81) × (put w b .used ≤ 81)
-put-ready w b p q = go (ltb (w .used) 81) refl
-  where
-    go : (t : Bool) → ltb (w .used) 81 ≡ t → (length (put w b .out) ≡ 81) × (put w b .used ≤ 81)
-    go true e =
-        let h = ltb-true (w .used) 81 e in
-        let l = put-longer w b (omega arith) in
-        (omega arith, omega arith)
-    go false e =
-        let h = ltb-false (w .used) 81 e in
-        rw (put-full w b (omega arith)) (p, q)
+abbrev pub due : Stand → List ℕ → List ℕ
+due s input = pending (s .stage) (s .going .state) (contents (s .going .line)) input
 
-module _ (g : Going) (b : ℕ) (r : Ready g) (h : g .out .used ≤ 65514) where
-  next-ready : Ready (nextByte g b)
-  unfolding nextByte
-  next-ready =
-      split Ready _ _ _ (λ _. ended-ready g r h)
-      (λ _. let p = put-ready (g .line) b (r .line-size) (r .line-used) in record { line-size = p .0; line-used = p .1; out-size = r .out-size })
+-- what is printed already, and that
+abbrev pub all : Stand → List ℕ → List ℕ
+all s input = shown s ++ due s input
 
-  next-all : (input : List ℕ) → all (nextByte g b) input ≡ all g (b ∷ input)
-  unfolding nextByte answers pick
+-- while the first line is awaited the tables have all their entries
+pub record Ready (N n : ℕ) (s : Stand) : Type 0 where
+  pub fit : Fit N n (s .going)
+  pub left : s .stage ≡ Opening → entries ≤ length (s .left)
+  pub right : s .stage ≡ Opening → entries ≤ length (s .right)
+  pub colour : s .stage ≡ Opening → entries ≤ length (s .colour)
+
+-- a byte of a later line
+module _ (N n : ℕ) (g : Going) (f : Fit N (suc n) g) (b : ℕ) where
+  next-fit : Fit N n (nextByte g b)
+  unfolding nextByte ended
+  next-fit =
+      split (Fit N n) _ _ _ (λ _. answered-fit N n g f
+      (later (read (contents (g .line))) (g .state)) _) (λ _. put-fit N n g f b)
+
+  next-all : (input : List ℕ)
+      → contents (nextByte g b .out) ++ answers (nextByte g b .state)
+      (contents (nextByte g b .line)) input
+      ≡ contents (g .out) ++ answers (g .state) (contents (g .line)) (b ∷ input)
+  unfolding nextByte ended answers pick putAll
   next-all input = go (eqb b newline) refl
     where
-      go : (t : Bool) → eqb b newline ≡ t → all (nextByte g b) input ≡ all g (b ∷ input)
-      go true e = rw e (ended-all g r h input)
-      go false e = rw (e, kept-byte (g .line) b (g .state) input (r .line-size) (r .line-used))
+      go : (t : Bool) → eqb b newline ≡ t
+          → contents (nextByte g b .out) ++ answers (nextByte g b .state)
+          (contents (nextByte g b .line)) input
+          ≡ contents (g .out) ++ answers (g .state) (contents (g .line)) (b ∷ input)
+      go true e =
+          rw (e, grown N n g f (later (read (contents (g .line))) (g .state)) .holds, append-assoc)
+      go false e =
+          rw (
+            e,
+            kept-byte N n g f b (λ w. answers (g .state) w input)
+                (λ w. kept (g .state) w input),
+          )
 
--- the bytes that are taken print what they print in the whole
-module _ (more : List ℕ) where
-  fed : (input : List ℕ) (i : ℕ) (g : Going) → Ready g
-      → Ready (feed input i g .going) × (all (feed input i g .going) (drop (feed input i g .next - i) input ++ more) ≡ all g (input ++ more))
-  unfolding feed pick
-  fed [] i g r = (r, rw drop-nil)
-  fed (b ∷ input) i g r = go (leb (g .out .used) 65514) refl (fed input (i + 1) (nextByte g b)) (least input (i + 1) (nextByte g b))
+-- a byte of the first line
+gathered-all : (N n : ℕ) (g : Going) → Fit N (suc n) g → (b : ℕ) → eqb b newline ≡ false
+    → (input : List ℕ)
+    → contents (g .out) ++ opening (contents (putAll (g .line) (b ∷ []))) input
+    ≡ contents (g .out) ++ opening (contents (g .line)) (b ∷ input)
+unfolding opening pick putAll
+gathered-all N n g f b e input =
+    rw (e, kept-byte N n g f b (λ w. opening w input) (λ w. kept-first w input))
+
+-- the first line's newline
+module _ (N n : ℕ) (g : Going) (f : Fit N (suc n) g) (l k c : List ℕ)
+    (o : Opens (opened (read (contents (g .line))) l k c) (first (read (contents (g .line))))) where
+  begun-fit : Fit N n (begun (stands Opening l k c g) .going)
+  unfolding begun
+  begun-fit = answered-fit N n g f (opened (read (contents (g .line))) l k c) _
+
+  begun-all : (input : List ℕ) → all (begun (stands Opening l k c g)) input
+      ≡ contents (g .out) ++ opening (contents (g .line)) (newline ∷ input)
+  unfolding begun opening pick
+  begun-all input = go (eqb (t .code) 0) refl
     where
-      go : (t : Bool) → leb (g .out .used) 65514 ≡ t
-          → (Ready (nextByte g b) → Ready (feed input (i + 1) (nextByte g b) .going)
-          × (all (feed input (i + 1) (nextByte g b) .going) (drop (feed input (i + 1) (nextByte g b) .next - (i + 1)) input ++ more) ≡ all (nextByte g b) (input ++ more)))
-          → i + 1 ≤ feed input (i + 1) (nextByte g b) .next
-          → Ready (feed (b ∷ input) i g .going) × (all (feed (b ∷ input) i g .going) (drop (feed (b ∷ input) i g .next - i) (b ∷ input) ++ more) ≡ all g (b ∷ (input ++ more)))
-      go true e f l =
-          let h = leb-true (g .out .used) 65514 e in
-          let k = f (next-ready g b r h) in
-          let n : feed input (i + 1) (nextByte g b) .next - i ≡ suc (feed input (i + 1) (nextByte g b) .next - (i + 1)) = omega arith in
-          rw e (k .0, rw n (k .1 ∙ next-all g b r h (input ++ more)))
-      go false e f l = rw e (r, rw sub-self)
+      t : Line
+      t = opened (read (contents (g .line))) l k c
 
--- a call of `feed`
-pub feed-prints : (more input : List ℕ) (i : ℕ) (g : Going) (f : Taken) → f ≡ feed (drop i input) i g → Ready g
-    → Ready (f .going) × (all (f .going) (drop (f .next) input ++ more) ≡ all g (drop i input ++ more))
-feed-prints more input i g f e r =
-    let k = fed more (drop i input) i g r in
-    let l = least (drop i input) i g in
-    let n : i + (feed (drop i input) i g .next - i) ≡ feed (drop i input) i g .next = omega arith in
-    rw e (k .0, rw (drop-drop, n) at (k .1))
+      u : Line
+      u = first (read (contents (g .line)))
 
--- a call of `finish`
-pub finish-prints : (g : Going) → Ready g → g .out .used ≤ 65514 → contents (finished g .out) ≡ all g []
-unfolding finished answers pick
-finish-prints g r h = go (eqb (g .line .used) 0) refl
+      printed-same : printed t ≡ printed u
+      printed-same = rw (o .code, o .node)
+
+      go : (z : Bool) → eqb (t .code) 0 ≡ z
+          → all (placed (pick z (Serving (t .state .rec .m)) Over) (t .state)
+          (written (g .line .out) 0) (putAll (g .out) (printed t))) input
+          ≡ contents (g .out) ++ (printed u ++ pick (eqb (u .code) 0) (answers (u .state) [] input)
+          [])
+      go true e =
+          let z : eqb (u .code) 0 ≡ true = rw (← o .code) e in
+          rw (
+            z,
+            grown N n g f t .holds,
+            printed-same,
+            append-assoc,
+            o .table
+                (sym (o .code) ∙ eqb-true _ _ e),
+          )
+      go false e =
+          let z : eqb (u .code) 0 ≡ false = rw (← o .code) e in
+          rw (z, grown N n g f t .holds, printed-same, append-assoc)
+
+apart-serving : (m : ℕ) {A : Type 0} → Serving m ≡ Opening → A
+apart-serving m q = let p : _≡_ {A = ℕ} 0 1 = cc in absurd (omega arith)
+
+apart-over : {A : Type 0} → Over ≡ Opening → A
+apart-over q = let p : _≡_ {A = ℕ} 0 1 = cc in absurd (omega arith)
+
+-- a byte, in each stage
+module _ (N n : ℕ) (l k c : List ℕ) (g : Going) (b : ℕ) where
+  first-byte : Ready N (suc n) (stands Opening l k c g)
+      → Ready N n (eaten Opening (stands Opening l k c g) b) ×
+      ((input : List ℕ) → all (eaten Opening (stands Opening l k c g) b) input
+      ≡ all (stands Opening l k c g) (b ∷ input))
+  unfolding eaten pick
+  first-byte r = go (eqb b newline) refl
+    where
+      f : Fit N (suc n) g
+      f = r .fit
+
+      o : Opens (opened (read (contents (g .line))) l k c) (first (read (contents (g .line))))
+      o =
+          opens-first (read (contents (g .line))) l k c (r .left refl) (r .right refl)
+          (r .colour refl)
+
+      apart : {A : Type 0} → begun (stands Opening l k c g) .stage ≡ Opening → A
+      apart q =
+          absurd (begun-apart (stands Opening l k c g) (begun (stands Opening l k c g)) refl q)
+
+      go : (t : Bool) → eqb b newline ≡ t
+          → Ready N n (pick t (begun (stands Opening l k c g))
+          (stands Opening l k c (gathered g (b ∷ []))))
+          ×
+          ((input : List ℕ)
+          → all (pick t (begun (stands Opening l k c g))
+          (stands Opening l k c (gathered g (b ∷ [])))) input
+          ≡ all (stands Opening l k c g) (b ∷ input))
+      go true e = (
+        record { fit = begun-fit N n g f l k c o; left = apart; right = apart; colour = apart },
+        λ input. rw (eqb-true b newline e) (begun-all N n g f l k c o input),
+      )
+      go false e = (
+        record { fit = put-fit N n g f b; left = r .left; right = r .right; colour = r .colour },
+        gathered-all N n g f b e,
+      )
+
+  later-byte : (m : ℕ) → Ready N (suc n) (stands (Serving m) l k c g)
+      → Ready N n (eaten (Serving m) (stands (Serving m) l k c g) b) ×
+      ((input : List ℕ) → all (eaten (Serving m) (stands (Serving m) l k c g) b) input
+      ≡ all (stands (Serving m) l k c g) (b ∷ input))
+  unfolding eaten
+  later-byte m r = (
+    record {
+      fit = next-fit N n g (r .fit) b;
+      left = apart-serving m;
+      right = apart-serving m;
+      colour = apart-serving m;
+    },
+    next-all N n g (r .fit) b,
+  )
+
+  over-byte : Ready N (suc n) (stands Over l k c g)
+      → Ready N n (eaten Over (stands Over l k c g) b) ×
+      ((input : List ℕ) → all (eaten Over (stands Over l k c g) b) input
+      ≡ all (stands Over l k c g) (b ∷ input))
+  unfolding eaten
+  over-byte r =
+      let f = r .fit in (
+        record {
+          fit = record {
+            line-size = f .line-size;
+            line-used = f .line-used;
+            out-size =
+                f .out-size;
+            room = omega (arith, f .room);
+          };
+          left = apart-over;
+          right = apart-over;
+          colour = apart-over;
+        },
+        λ _. refl,
+      )
+
+  byte : (st : Stage) → Ready N (suc n) (stands st l k c g)
+      → Ready N n (eats (stands st l k c g) b) ×
+      ((input : List ℕ) → all (eats (stands st l k c g) b) input
+      ≡ all (stands st l k c g) (b ∷ input))
+  byte Opening r = first-byte r
+  byte (Serving m) r = later-byte m r
+  byte Over r = over-byte r
+
+-- the bytes of a block
+eaten-all : (N : ℕ) (more input : List ℕ) (s : Stand) → Ready N (length input) s
+    → Ready N 0 (fold eats input s) × (all (fold eats input s) more ≡ all s (input ++ more))
+unfolding fold
+eaten-all N more [] s r = (r, refl)
+eaten-all N more (b ∷ input) s r =
+    let p = byte N (length input) (s .left) (s .right) (s .colour) (s .going) b (s .stage) r in
+    let q = eaten-all N more input (eats s b) (p .0) in
+    (q .0, q .1 ∙ p .1 (input ++ more))
+
+-- a block, into an output that is empty again
+block-all : (N : ℕ) (s : Stand) (input more : List ℕ) → Ready N 0 s → widest * length input ≤ N
+    → Ready N 0 (block input s) × (all (block input s) more ≡ due s (input ++ more))
+unfolding block
+block-all N s input more r h =
+    let f = r .fit in
+    eaten-all N more input (emptied s)
+    (record {
+      fit = record {
+        line-size = f .line-size;
+        line-used = f .line-used;
+        out-size = f .out-size;
+        room = omega arith;
+      };
+      left = r .left;
+      right = r .right;
+      colour = r .colour;
+    })
+
+-- after a newline no line is at hand
+begun-silent : (s : Stand) → due (begun s) [] ≡ []
+unfolding begun answers pick
+begun-silent s = go (eqb (t .code) 0)
   where
-    n : length (contents (g .line)) ≡ g .line .used
-    n = let u = r .line-used in let z = r .line-size in length-take-le (g .line .used) (g .line .out) (omega arith)
+    t : Line
+    t = opened (read (contents (s .going .line))) (s .left) (s .right) (s .colour)
 
-    go : (t : Bool) → eqb (g .line .used) 0 ≡ t → contents (finished g .out) ≡ all g []
-    go true e = rw (n, e) (sym (append-nil _))
-    go false e = rw (n, e) (grown g r h .holds)
+    go : (z : Bool)
+        → due (placed (pick z (Serving (t .state .rec .m)) Over) (t .state)
+        (written (s .going .line .out) 0) (putAll (s .going .out) (printed t))) [] ≡ []
+    go true = refl
+    go false = refl
+
+opening-end : (line : List ℕ) → opening line (newline ∷ []) ≡ opening line []
+unfolding opening answers pick
+opening-end line =
+    split (λ (o : List ℕ). printed (first (read line)) ++ o ≡ printed (first (read line)))
+    (eqb (first (read line) .code) 0) _ _ (λ _. append-nil _) (λ _. append-nil _)
+
+answers-end : (s : State) (line : List ℕ) → eqb (length line) 0 ≡ false
+    → answers s line (newline ∷ []) ≡ answers s line []
+unfolding answers pick
+answers-end s line e = rw e (append-nil _)
+
+-- the end of the input
+module _ (N : ℕ) (l k c : List ℕ) (g : Going) (h : widest ≤ N) where
+  finish-first : Ready N 0 (stands Opening l k c g) → shown (finish (stands Opening l k c g))
+      ≡ opening (contents (g .line)) []
+  unfolding finish block fold eaten pick
+  finish-first r =
+      let e = block-all N (stands Opening l k c g) (newline ∷ []) [] r (omega arith) .1 in
+      sym (append-nil _)
+      ∙ ap (λ (o : List ℕ). shown (begun (emptied (stands Opening l k c g))) ++ o)
+      (sym (begun-silent (emptied (stands Opening l k c g)))) ∙ e
+      ∙ opening-end (contents (g .line))
+
+  finish-later : (m : ℕ) → Ready N 0 (stands (Serving m) l k c g)
+      → shown (finish (stands (Serving m) l k c g)) ≡ answers (g .state) (contents (g .line)) []
+  unfolding finish block fold eaten nextByte ended answers pick
+  finish-later m r = go (eqb (g .line .used) 0) refl
+    where
+      n : length (contents (g .line)) ≡ g .line .used
+      n =
+          length-take-le (g .line .used) (g .line .out)
+          (omega (arith, r .fit .line-used, r .fit .line-size))
+
+      go : (t : Bool) → eqb (g .line .used) 0 ≡ t → shown (finish (stands (Serving m) l k c g))
+          ≡ answers (g .state) (contents (g .line)) []
+      go true e = rw (n, e)
+      go false e =
+          let z = block-all N (stands (Serving m) l k c g) (newline ∷ []) [] r (omega arith) .1 in
+          rw e (sym (append-nil _) ∙ z ∙ answers-end (g .state) (contents (g .line)) (rw n e))
+
+  finish-all : (st : Stage) → Ready N 0 (stands st l k c g) → shown (finish (stands st l k c g))
+      ≡ due (stands st l k c g) []
+  unfolding finish pick
+  finish-all Opening r = finish-first r
+  finish-all (Serving m) r = finish-later m r
+  finish-all Over r = refl
+
+-- an output of N bytes has room for the answers of each block
+abbrev pub Short : ℕ → List (List ℕ) → Type 0
+Short N [] = widest ≤ N
+Short N (b ∷ blocks) = (widest * length b ≤ N) × Short N blocks
+
+-- what blocks print, and the end of the input
+printed-all : (N : ℕ) (blocks : List (List ℕ)) (s : Stand) → Ready N 0 s → Short N blocks
+    → outputs s blocks ≡ due s (flatten blocks)
+unfolding outputs flatten
+printed-all N [] s r h = finish-all N (s .left) (s .right) (s .colour) (s .going) h (s .stage) r
+printed-all N (b ∷ blocks) s r h =
+    let p = block-all N s b (flatten blocks) r (h .0) in
+    rw (printed-all N blocks (block b s) (p .0) (h .1)) (p .1)
+
+-- however the input is cut, what its blocks print, one after the other, is its transcript
+pub cut : (l k c line out : List ℕ) → entries ≤ length l → entries ≤ length k → entries ≤ length c
+    → length line ≡ keeps
+    → (blocks : List (List ℕ)) → Short (length out) blocks
+    → outputs (stand started l k c line out) blocks ≡ transcript (flatten blocks)
+cut l k c line out p q s h blocks f =
+    printed-all (length out) blocks (stand started l k c line out)
+    (record {
+      fit = record {
+        line-size = h;
+        line-used = omega arith;
+        out-size = refl;
+        room = omega arith;
+      };
+      left = λ _. p;
+      right = λ _. q;
+      colour = λ _. s;
+    }) f
+
+-- where the run is over nothing more is printed
+pub over-silent : (blocks : List (List ℕ)) (s : Stand) → s .stage ≡ Over → outputs s blocks ≡ []
+unfolding outputs block finish pick
+over-silent [] s q = rw q
+over-silent (b ∷ blocks) s q =
+    let e = over b (emptied s) q in
+    rw (← e) (over-silent blocks (emptied s) q)

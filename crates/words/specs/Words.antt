@@ -1,10 +1,10 @@
--- The record as sixteen 32-bit words, for callers that have no enums.
+-- [C 2] The record as 32-bit words, for callers that have no enums.
 use Rattle.base.specs.Choice.{pick, every}
-use Prim.Native.Nat.{ℕ}
-use mathlib.Core.Bool.{Bool}
+use Prim.Native.Nat.{ℕ, zero, suc, _-_, _≤_}
+use mathlib.Core.Bool.{Bool, true}
 use mathlib.Core.List.{List, [], _∷_}
 use lib.Dec.{leb, eqb}
-use lib.ListN.{length, getD}
+use lib.ListN.{length, getD, replicate}
 use Rattle.rules.specs.Records.{position}
 use Rattle.rules.specs.declared.Record.{Record}
 use Rattle.rules.specs.declared.Phase.{Phase}
@@ -14,6 +14,53 @@ use Rattle.rules.specs.declared.Owed.the-variants.{Nothing, Node}
 
 abbrev pub word : List ℕ → ℕ → ℕ
 word w n = getD w n 0
+
+-- How many words there are, and the number of each, by the names of include/jenturik.h.
+abbrev pub WORDS : ℕ
+WORDS = 24
+
+abbrev pub NODES : ℕ
+NODES = 0
+
+abbrev pub SLOTS : ℕ
+SLOTS = 1
+
+abbrev pub PHASE : ℕ
+PHASE = 2
+
+abbrev pub I : ℕ
+I = 3
+
+abbrev pub K : ℕ
+K = 4
+
+abbrev pub OWES : ℕ
+OWES = 5
+
+abbrev pub OWED : ℕ
+OWED = 6
+
+abbrev pub LAST : ℕ
+LAST = 7
+
+abbrev pub STEPS : ℕ
+STEPS = 8
+
+abbrev pub CYCLES : ℕ
+CYCLES = 9
+
+abbrev pub TOOK : ℕ
+TOOK = 10
+
+abbrev pub BLACKENED : ℕ
+BLACKENED = 11
+
+abbrev pub IN_USE : ℕ
+IN_USE = 12
+
+-- those from here on have no use
+abbrev pub USED : ℕ
+USED = 13
 
 -- which phase it is, and its k: 0 but in Scan
 abbrev pub tagOf : Phase → ℕ
@@ -41,9 +88,20 @@ abbrev pub owedOf : Owed → ℕ
 owedOf Nothing = 0
 owedOf (Node n) = n
 
+-- the words that have no use are 0
+abbrev pub unused : List ℕ
+unused = replicate (WORDS - USED) 0
+
+-- the words of a record; its phase is told by tag, i and k, its shade by owes and n
+abbrev pub laidOut : Record → ℕ → ℕ → ℕ → ℕ → ℕ → List ℕ
+laidOut x tag i k owes n =
+    x .m ∷ x .r ∷ tag ∷ i ∷ k ∷ owes ∷ n ∷ x .last ∷ x .steps ∷ x .cycles ∷ x .took ∷ x .blackened ∷
+    x .inuse ∷ unused
+
 abbrev pub wordsOf : Record → List ℕ
 wordsOf x =
-    x .m ∷ x .r ∷ tagOf (x .phase) ∷ position (x .phase) ∷ kOf (x .phase) ∷ owesOf (x .owed) ∷ owedOf (x .owed) ∷ x .last ∷ x .steps ∷ x .cycles ∷ x .took ∷ x .blackened ∷ x .inuse ∷ 0 ∷ 0 ∷ 0 ∷ []
+    laidOut x (tagOf (x .phase)) (position (x .phase)) (kOf (x .phase)) (owesOf (x .owed))
+    (owedOf (x .owed))
 
 unfoldable pub phaseOf : ℕ → ℕ → ℕ → Phase
 phaseOf tag i k =
@@ -56,31 +114,57 @@ phaseOf tag i k =
 unfoldable pub shadeOf : ℕ → ℕ → Owed
 shadeOf owes n = pick (eqb owes 0) Nothing (Node n)
 
+-- the record of words that tell a phase and a shade
+abbrev pub pickedUp : List ℕ → Phase → Owed → Record
+pickedUp w phase owed =
+    record {
+      m = word w NODES;
+      r = word w SLOTS;
+      phase = phase;
+      owed = owed;
+      last = word w LAST;
+      steps = word w STEPS;
+      cycles = word w CYCLES;
+      took = word w TOOK;
+      blackened = word w BLACKENED;
+      inuse = word w IN_USE;
+    }
+
 unfoldable pub recordOf : List ℕ → Record
 recordOf w =
-    record { m = word w 0; r = word w 1; phase = phaseOf (word w 2) (word w 3) (word w 4); owed = shadeOf (word w 5) (word w 6); last = word w 7; steps = word w 8; cycles = word w 9; took = word w 10; blackened = word w 11; inuse = word w 12 }
+    pickedUp w (phaseOf (word w PHASE) (word w I) (word w K))
+    (shadeOf (word w OWES) (word w OWED))
 
--- a number of 16 bits
-abbrev pub small : ℕ → Bool
-small n = leb n 65535
+-- a number of 16 bits, and one of 32
+abbrev small : ℕ
+small = 65535
 
--- the phase is one of six, and k is 0 but in Scan
-unfoldable pub phaseWords : ℕ → ℕ → ℕ → Bool
-phaseWords tag i k = every (leb tag 5 ∷ small i ∷ pick (eqb tag 1) (small k) (eqb k 0) ∷ [])
+abbrev large : ℕ
+large = 4294967295
 
--- a shade is owed or not, and the node is 0 where it is not
-unfoldable pub owedWords : ℕ → ℕ → Bool
-owedWords owes n = every (leb owes 1 ∷ pick (eqb owes 1) (small n) (eqb n 0) ∷ [])
+-- the most that each word may be, in their order
+abbrev pub most : List ℕ
+most =
+    small ∷ small ∷ 5 ∷ small ∷ small ∷ 1 ∷ small ∷ small ∷ large ∷ large ∷ large ∷ small ∷ small ∷
+    unused
 
--- the words that have no use are 0
-unfoldable pub unusedWords : ℕ → ℕ → ℕ → Bool
-unusedWords a b c = every (eqb a 0 ∷ eqb b 0 ∷ eqb c 0 ∷ [])
+-- the first n words are at most that
+unfoldable pub within : List ℕ → ℕ → Bool
+within w zero = true
+within w (suc n) = every (within w n ∷ leb (word w n) (word most n) ∷ [])
 
--- M, R, last, blackened and nodes in use are of 16 bits
-unfoldable pub nodeWords : ℕ → ℕ → ℕ → ℕ → ℕ → Bool
-nodeWords m r last blackened inuse = every (small m ∷ small r ∷ small last ∷ small blackened ∷ small inuse ∷ [])
+-- n is 0 but where the flag is 1
+unfoldable pub flagged : ℕ → ℕ → Bool
+flagged flag n = pick (eqb flag 1) true (eqb n 0)
 
--- whether words are a record's: sixteen, each number in its width, phase, shade and unused words as above
+-- [C 3] whether words are a record's: so many, each in its width, k 0 but in Scan, the node 0 but
+-- where one is owed
 unfoldable pub isRecord : List ℕ → Bool
 isRecord w =
-    every (eqb (length w) 16 ∷ phaseWords (word w 2) (word w 3) (word w 4) ∷ owedWords (word w 5) (word w 6) ∷ unusedWords (word w 13) (word w 14) (word w 15) ∷ nodeWords (word w 0) (word w 1) (word w 7) (word w 11) (word w 12) ∷ [])
+    every (eqb (length w) WORDS ∷ within w WORDS ∷ flagged (word w PHASE) (word w K) ∷ flagged
+    (word w OWES) (word w OWED) ∷ [])
+
+-- the same as facts: what the first n words are
+abbrev pub Within : List ℕ → ℕ → Type 0
+Within w zero = Unit {0}
+Within w (suc n) = Within w n × (word w n ≤ word most n)

@@ -1,10 +1,44 @@
-// The record as sixteen 32-bit words, for callers that have no enums.
+// The record as 32-bit words, for callers that have no enums.
 use rules::Owed;
 use rules::Phase;
 use rules::Record;
 ghost use mathlib.Core.Path.{_≡_};
 ghost use mathlib.Core.Bool.{true};
-ghost use Rattle.words.specs.Words.{tagOf, kOf, owesOf, owedOf, wordsOf, phaseWords, owedWords, unusedWords, nodeWords, phaseOf, shadeOf, recordOf, isRecord};
+ghost use mathlib.Core.List.{[], _∷_};
+ghost use lib.Dec.{leb};
+ghost use Rattle.base.specs.Choice.{every};
+ghost use Rattle.words.specs.Words.{tagOf, kOf, owesOf, owedOf, laidOut, wordsOf, phaseOf};
+ghost use Rattle.words.specs.Words.{shadeOf, pickedUp, recordOf, within, flagged};
+ghost use Rattle.words.specs.Words.{isRecord, Within, WORDS};
+
+// How many words there are, and the number of each, by the names of include/jenturik.h.
+pub const WORDS: usize = 24;
+
+const NODES: usize = 0;
+
+const SLOTS: usize = 1;
+
+const PHASE: usize = 2;
+
+const I: usize = 3;
+
+const K: usize = 4;
+
+const OWES: usize = 5;
+
+const OWED: usize = 6;
+
+const LAST: usize = 7;
+
+const STEPS: usize = 8;
+
+const CYCLES: usize = 9;
+
+const TOOK: usize = 10;
+
+const BLACKENED: usize = 11;
+
+const IN_USE: usize = 12;
 
 fn tag(p: Phase) -> u32
     ensures { λ n. ⌜ n ≡ tagOf p ⌝ }
@@ -50,103 +84,121 @@ fn owed(o: Owed) -> u16
     }
 }
 
-// The record's words.
-pub fn words_of(x: Record) -> [u32; 16]
-    ensures { λ w. ⌜ (w ≡ wordsOf x) × (true ≡ isRecord w) ⌝ }
+fn laid_out(x: Record, tag: u32, i: u16, k: u16, owes: u32, n: u16) -> [u32; WORDS]
+    ensures { λ w. ⌜ w ≡ laidOut x tag i k owes n ⌝ }
 {
-    let p = x.phase;
-    let o = x.owed;
+    let m = x.m;
+    let r = x.r;
+    let last = x.last;
+    let blackened = x.blackened;
+    let inuse = x.inuse;
     [
-        x.m as u32,
-        x.r as u32,
-        tag(p),
-        rules::position(p) as u32,
-        rest(p) as u32,
-        owes(o),
-        owed(o) as u32,
-        x.last as u32,
+        m as u32,
+        r as u32,
+        tag,
+        i as u32,
+        k as u32,
+        owes,
+        n as u32,
+        last as u32,
         x.steps,
         x.cycles,
         x.took,
-        x.blackened as u32,
-        x.inuse as u32,
+        blackened as u32,
+        inuse as u32,
+        0,
+        0,
+        0,
+        0,
+        0,
+        0,
+        0,
+        0,
         0,
         0,
         0,
     ]
 }
 
-fn phase_words(tag: u32, i: u32, k: u32) -> bool
-    ensures { λ ok. ⌜ ok ≡ phaseWords tag i k ⌝ }
+// The record's words.
+pub fn words_of(x: Record) -> [u32; WORDS]
+    ensures { λ w. ⌜ w ≡ wordsOf x ⌝ }
+    ensures { λ w. ⌜ true ≡ isRecord w ⌝ }
 {
-    if 5 < tag {
-        return false;
-    }
-    if 65535 < i {
-        return false;
-    }
-    if tag == 1 {
-        return k <= 65535;
-    }
-    k == 0
+    let p = x.phase;
+    let o = x.owed;
+    laid_out(x, tag(p), rules::position(p), rest(p), owes(o), owed(o))
 }
 
-fn owed_words(owes: u32, n: u32) -> bool
-    ensures { λ ok. ⌜ ok ≡ owedWords owes n ⌝ }
+// Whether four numbers are at most top.
+fn at_most(top: u32, a: u32, b: u32, c: u32, d: u32) -> bool
+    ensures { λ ok. ⌜ ok ≡ every (leb a top ∷ leb b top ∷ leb c top ∷ leb d top ∷ []) ⌝ }
 {
-    if 1 < owes {
+    if top < a {
         return false;
     }
-    if owes == 1 {
-        return n <= 65535;
+    if top < b {
+        return false;
+    }
+    if top < c {
+        return false;
+    }
+    d <= top
+}
+
+// Whether each word has its width; those from 13 on have no use. They are tested by name, not in a
+// loop: the compiler would make it load four words at once, which waits until the words that the
+// call before stored one by one are in memory.
+fn within(w: [u32; WORDS]) -> bool
+    ensures { λ ok. ⌜ ok ≡ within w WORDS ⌝ }
+{
+    if 5 < w[PHASE] {
+        return false;
+    }
+    if 1 < w[OWES] {
+        return false;
+    }
+    if !at_most(65535, w[I], w[K], w[OWED], w[LAST]) {
+        return false;
+    }
+    if !at_most(65535, w[NODES], w[SLOTS], w[BLACKENED], w[IN_USE]) {
+        return false;
+    }
+    if !at_most(4294967295, w[STEPS], w[CYCLES], w[TOOK], 0) {
+        return false;
+    }
+    if !at_most(0, w[13], w[14], w[15], w[16]) {
+        return false;
+    }
+    if !at_most(0, w[17], w[18], w[19], w[20]) {
+        return false;
+    }
+    if !at_most(0, w[21], w[22], w[23], 0) {
+        return false;
+    }
+    true
+}
+
+fn flagged(flag: u32, n: u32) -> bool
+    ensures { λ ok. ⌜ ok ≡ flagged flag n ⌝ }
+{
+    if flag == 1 {
+        return true;
     }
     n == 0
 }
 
-fn unused_words(a: u32, b: u32, c: u32) -> bool
-    ensures { λ ok. ⌜ ok ≡ unusedWords a b c ⌝ }
-{
-    if a != 0 {
-        return false;
-    }
-    if b != 0 {
-        return false;
-    }
-    c == 0
-}
-
-fn node_words(m: u32, r: u32, last: u32, blackened: u32, inuse: u32) -> bool
-    ensures { λ ok. ⌜ ok ≡ nodeWords m r last blackened inuse ⌝ }
-{
-    if 65535 < m {
-        return false;
-    }
-    if 65535 < r {
-        return false;
-    }
-    if 65535 < last {
-        return false;
-    }
-    if 65535 < blackened {
-        return false;
-    }
-    inuse <= 65535
-}
-
 // Whether words are a record's.
-pub fn is_record(w: [u32; 16]) -> bool
+pub fn is_record(w: [u32; WORDS]) -> bool
     ensures { λ ok. ⌜ ok ≡ isRecord w ⌝ }
 {
-    if !phase_words(w[2], w[3], w[4]) {
+    if !within(w) {
         return false;
     }
-    if !owed_words(w[5], w[6]) {
+    if !flagged(w[PHASE], w[K]) {
         return false;
     }
-    if !unused_words(w[13], w[14], w[15]) {
-        return false;
-    }
-    node_words(w[0], w[1], w[7], w[11], w[12])
+    flagged(w[OWES], w[OWED])
 }
 
 fn phase_of(tag: u32, i: u16, k: u16) -> Phase
@@ -179,21 +231,30 @@ fn shade_of(owes: u32, n: u16) -> Owed
     Owed::Node(n)
 }
 
+fn picked_up(w: [u32; WORDS], phase: Phase, owed: Owed) -> Record
+    requires { ⌜ Within w WORDS ⌝ }
+    ensures { λ x. ⌜ x ≡ pickedUp w phase owed ⌝ }
+{
+    Record {
+        m: w[NODES] as u16,
+        r: w[SLOTS] as u16,
+        phase,
+        owed,
+        last: w[LAST] as u16,
+        steps: w[STEPS],
+        cycles: w[CYCLES],
+        took: w[TOOK],
+        blackened: w[BLACKENED] as u16,
+        inuse: w[IN_USE] as u16,
+    }
+}
+
 // The record that words are.
-pub fn record_of(w: [u32; 16]) -> Record
+pub fn record_of(w: [u32; WORDS]) -> Record
     requires { ⌜ true ≡ isRecord w ⌝ }
     ensures { λ x. ⌜ x ≡ recordOf w ⌝ }
 {
-    Record {
-        m: w[0] as u16,
-        r: w[1] as u16,
-        phase: phase_of(w[2], w[3] as u16, w[4] as u16),
-        owed: shade_of(w[5], w[6] as u16),
-        last: w[7] as u16,
-        steps: w[8],
-        cycles: w[9],
-        took: w[10],
-        blackened: w[11] as u16,
-        inuse: w[12] as u16,
-    }
+    let phase = phase_of(w[PHASE], w[I] as u16, w[K] as u16);
+    let owed = shade_of(w[OWES], w[OWED] as u16);
+    picked_up(w, phase, owed)
 }

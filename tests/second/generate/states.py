@@ -1,6 +1,7 @@
 """Lines for `model --state`, `--run` and `--fresh`. A family is given a random
 source and a sound table with its record, may change these, and answers a step:
-kind, slot, count, word, side, toslot, tocount, toword."""
+kind, slot, count, word, side, toslot, tocount, toword. Some are invented, or damaged: every call
+answers, whatever it is given [Calls 1]."""
 
 import random
 

@@ -12,7 +12,7 @@ pub const ABSENT: usize = 8;
 pub const EMPTY: usize = 9;
 pub const UNREADABLE: usize = 10;
 
-/// "A refused step answers node 0 (7 answers the node) and changes nothing."
+/// [Answers 3]
 pub struct Refusal {
     pub code: usize,
     pub node: usize,
@@ -22,14 +22,14 @@ pub fn refuse<T>(code: usize) -> Result<T, Refusal> {
     Err(Refusal { code, node: 0 })
 }
 
-/// "7 damaged | a value read is bad, with the node it belongs to"
+/// [Codes 7] with the node that has the bad value
 pub fn damaged<T>(node: usize) -> Result<T, Refusal> {
     let code = DAMAGED;
     Err(Refusal { code, node })
 }
 
-/// "Each collector step answers what it did and to which node"; the values are
-/// the `did` column of `--state`.
+/// [Answers 1] what a collector step did; the values are the `did` column of
+/// `--state`.
 #[derive(Clone, Copy)]
 pub enum Did {
     Edited = 0,

@@ -4,7 +4,7 @@ use crate::answer::{answer, damaged, Did, Reply};
 use crate::record::{Phase, Record, LARGEST_CYCLES};
 use crate::table::{Table, BLACK, GRAY, LEFT, RIGHT, WHITE};
 
-/// "One call does one of these."
+/// [Collector 1] the step of the phase
 pub fn collect(table: &mut Table, record: &mut Record) -> Reply {
     match record.phase {
         Phase::Roots(i) => roots(table, record, i),
@@ -16,18 +16,18 @@ pub fn collect(table: &mut Table, record: &mut Record) -> Reply {
     }
 }
 
-/// "Every collector step that is done counts one."
+/// [Collector 2] one more step is done
 fn move_on(record: &mut Record, phase: Phase) {
     record.steps += 1;
     record.phase = phase;
 }
 
-/// "i moves on modulo M"
+/// [Collector 3] the node after i
 fn next(record: &Record, i: usize) -> usize {
     (i + 1) % record.m
 }
 
-/// "Roots i: shade node i. After i = R + 1: Scan 0 with k = M."
+/// [Roots 1] [Roots 2]
 fn roots(table: &mut Table, record: &mut Record, i: usize) -> Reply {
     table.colour(i)?;
     table.shade(i);
@@ -39,15 +39,13 @@ fn roots(table: &mut Table, record: &mut Record, i: usize) -> Reply {
     answer(Did::Shaded, i)
 }
 
-/// "Scan i, k: if node i is gray, Left i. Otherwise k falls by one and i moves
-/// on modulo M; if k is now 0, Append 0, and nodes in use is set."
+/// [Scan 1] [Scan 2] [Scan 3] [Scan 4]
 fn scan(table: &mut Table, record: &mut Record, i: usize, k: usize) -> Reply {
     if table.colour(i)? == GRAY {
         move_on(record, Phase::Left(i));
     } else if k == 1 {
         move_on(record, Phase::Append(0));
-        // "Nodes in use" is the number of nodes blackened in the last completed
-        // marking
+        // [Record 10]
         record.in_use = record.blackened;
     } else {
         move_on(record, Phase::Scan(next(record, i), k - 1));
@@ -55,7 +53,7 @@ fn scan(table: &mut Table, record: &mut Record, i: usize, k: usize) -> Reply {
     answer(Did::Looked, i)
 }
 
-/// "Left i: shade the left successor; Right i: the right one"
+/// [Edges 1] [Edges 2] [Edges 3]
 fn shade_edge(table: &mut Table, record: &mut Record, i: usize, side: usize) -> Reply {
     let node = table.edge(record, i, side)?;
     table.colour(node)?;
@@ -64,8 +62,7 @@ fn shade_edge(table: &mut Table, record: &mut Record, i: usize, side: usize) -> 
     answer(Did::Shaded, node)
 }
 
-/// "Black i: make node i black, add one to nodes blackened, then Scan at the
-/// next i (modulo M) with k = M."  "Black reads nothing."
+/// [Black 1] [Black 2] [Black 3]
 fn black(table: &mut Table, record: &mut Record, i: usize) -> Reply {
     table.colours[i] = BLACK;
     record.blackened += 1;
@@ -73,11 +70,9 @@ fn black(table: &mut Table, record: &mut Record, i: usize) -> Reply {
     answer(Did::Blackened, i)
 }
 
-/// "Append i: a black node becomes white. A white one gets both edges 0, the
-/// left edge of last becomes i, last becomes i, and its colour stays white."
+/// [Append 1] reads the colour; [Append 2] black, [Append 3] white; [Append 4]
 fn append(table: &mut Table, record: &mut Record, i: usize) -> Reply {
-    // "Bad: ... a colour above 2; in Append, a gray node, a white root, or a
-    // white node that is last"; "Nodes 0 to R + 1 are the roots."
+    // [Damage 3] [Damage 4]
     let colour = table.colour(i)?;
     let white_root = colour == WHITE && i <= record.r + 1;
     let white_last = colour == WHITE && i == record.last;
@@ -103,14 +98,13 @@ fn append(table: &mut Table, record: &mut Record, i: usize) -> Reply {
     answer(did, i)
 }
 
-/// "After i = M − 1 the cycle is complete: the steps become the last cycle's
-/// count, steps and blackened become 0, Roots 0."
+/// [Append 5]
 fn complete_cycle(record: &mut Record) {
     move_on(record, Phase::Roots(0));
     record.last_cycle_steps = record.steps;
     record.steps = 0;
     record.blackened = 0;
-    // "cycles completed (32 bits, stays at its largest value)"
+    // [Record 7]
     if record.cycles < LARGEST_CYCLES {
         record.cycles += 1;
     }

@@ -5,7 +5,7 @@ use crate::answer::{ABSENT, EMPTY, NOTHING_OWED, OWED, SLOT, TURNS};
 use crate::record::Record;
 use crate::table::{Table, FREE, LEFT, NIL};
 
-/// "A place is a slot number, a count of turns (0 to 12) and a 16-bit word"
+/// [Places 1]
 #[derive(Clone, Copy, Default)]
 pub struct Place {
     pub slot: usize,
@@ -13,37 +13,35 @@ pub struct Place {
     pub word: usize,
 }
 
-/// Codes 3 and 4 of one place, in this order.
+/// Codes 3 and 4 of one place, in this order [Places 8].
 fn judge_place(record: &Record, place: Place) -> Result<(), Refusal> {
-    // "slot number at least R"
+    // [Codes 3]
     if place.slot >= record.r {
         return refuse(SLOT);
     }
-    // "count above 12, or a set bit at or above the count"
+    // [Codes 4]
     if place.count > 12 || place.word >> place.count != 0 {
         return refuse(TURNS);
     }
     Ok(())
 }
 
-/// "The walk starts at the slot's node; once at NIL it stays there and reads
-/// nothing more."
+/// [Places 4] [Places 5] an edge for each turn, until NIL
 fn walk(table: &Table, record: &Record, place: Place) -> Result<usize, Refusal> {
-    // "Slot s is node s + 2."
+    // [Table 8]
     let mut node = place.slot + 2;
     for j in 0..place.count {
         if node == NIL {
             return Ok(NIL);
         }
-        // "bit j, lowest first, is turn j, 0 left and 1 right"
+        // [Places 2]
         let side = (place.word >> j) & 1;
         node = table.edge(record, node, side)?;
     }
     Ok(node)
 }
 
-/// "5 owed | Link or Take while a shade is owed", then the walk to the source,
-/// then "8 absent | the source place of Link or Take is NIL".
+/// [Codes 5], then the walk to the source, then [Codes 8]
 fn source_of(table: &Table, record: &Record, place: Place) -> Result<usize, Refusal> {
     if record.owed.is_some() {
         return refuse(OWED);
@@ -55,32 +53,31 @@ fn source_of(table: &Table, record: &Record, place: Place) -> Result<usize, Refu
     Ok(source)
 }
 
-/// "Look (a place): answers the node. NIL is allowed and is answered as 0."
+/// [Look 1] [Look 2]
 pub fn look(table: &Table, record: &Record, place: Place) -> Reply {
     judge_place(record, place)?;
     let node = walk(table, record, place)?;
     answer(Did::Edited, node)
 }
 
-/// "Link (source place, side, target place): that edge of the source now points
-/// to the target, and the target's shade is owed."
+/// [Link 1] moves the edge, [Link 2] and owes the target's shade
 pub fn link(table: &mut Table, record: &mut Record, from: Place, side: usize, to: Place) -> Reply {
-    // "then 3 and 4 for the first place, 3 and 4 for the second"
+    // [Order 1] the first place's codes before the second's
     judge_place(record, from)?;
     judge_place(record, to)?;
-    // "5 or 6, then 7 and 8 along the first walk, 7 along the second"; "Both
-    // places are walked in the table as it was before."
+    // [Order 2] the source's walk and code 8 before the target's walk; [Link 4]
+    // both walks before the edge is moved
     let source = source_of(table, record, from)?;
     let target = walk(table, record, to)?;
     table.set_edge(source, side, target);
     record.owed = Some(target);
-    // "Answers the target."
+    // [Link 5]
     answer(Did::Edited, target)
 }
 
-/// "Shade: shades the node owed and answers it; nothing is owed afterwards."
+/// [Shade 1] [Shade 2] pays the shade owed
 pub fn shade(table: &mut Table, record: &mut Record) -> Reply {
-    // "6 nothing owed | Shade with nothing owed"
+    // [Codes 6]
     let Some(node) = record.owed else {
         return refuse(NOTHING_OWED);
     };
@@ -90,25 +87,22 @@ pub fn shade(table: &mut Table, record: &mut Record) -> Reply {
     answer(Did::Edited, node)
 }
 
-/// "Take (place, side): f is the first free node, g its successor."
+/// [Take 1] f is the first free node, g the one after it
 pub fn take(table: &mut Table, record: &mut Record, place: Place, side: usize) -> Reply {
     judge_place(record, place)?;
     let source = source_of(table, record, place)?;
-    // "then 7 for a bad left edge of FREE, 9, 7 for the rest"
+    // [Order 3] [Codes 9]
     let f = table.free_edge(record, FREE)?;
     if f == 0 {
         return refuse(EMPTY);
     }
-    // "for Take after FREE's left edge that is f's left edge, f's colour, then
-    // g's colour"
+    // [Take 2]
     let g = table.free_edge(record, f)?;
     table.colour(f)?;
     if g != 0 {
         table.colour(g)?;
     }
-    // "The edge points to f; FREE's left edge becomes g; f's left edge becomes
-    // 0; f is shaded; g is shaded unless it is 0; if g is 0, last becomes 1."
-    // "Writes follow the order told too"
+    // [Take 3] the edges in their order, [Take 4] the shading, [Take 5] last
     table.set_edge(source, side, f);
     table.set_edge(FREE, LEFT, g);
     table.set_edge(f, LEFT, 0);
@@ -118,6 +112,6 @@ pub fn take(table: &mut Table, record: &mut Record, place: Place, side: usize) -
     } else {
         record.last = 1;
     }
-    // "Nothing is owed. Answers f."
+    // [Take 6] [Take 7]
     answer(Did::Edited, f)
 }

@@ -1,5 +1,5 @@
-//! A second program for the page "What to make and its exact rules".
-//! Quotations in the comments are that page's sentences.
+//! A second program, written from the studio's document 01 alone, without a look
+//! at the first. The comments cite the rules of docs/RULES.md that it follows.
 //!
 //!     rustc -O main.rs -o model
 //!

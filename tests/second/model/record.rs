@@ -3,7 +3,7 @@
 use crate::answer::{refuse, Refusal, DONE, RECORD, SIZE};
 use crate::table::{Table, FREE, LEFT, RIGHT, WHITE};
 
-/// "The phase is one of six cases carrying its own position"
+/// [Record 2]
 #[derive(Clone, Copy)]
 pub enum Phase {
     Roots(usize),
@@ -15,7 +15,7 @@ pub enum Phase {
 }
 
 impl Phase {
-    /// "the position's i"
+    /// the i of the case
     pub fn position(self) -> usize {
         match self {
             Phase::Roots(i) | Phase::Scan(i, _) | Phase::Left(i) => i,
@@ -24,10 +24,8 @@ impl Phase {
     }
 }
 
-/// "M, R, the phase with its position, the shade owed (nothing, or a node), the
-/// last free node (1 if the list is empty), the collector steps of this cycle,
-/// cycles completed (32 bits, stays at its largest value), steps the last
-/// completed cycle took, nodes blackened in this marking, and nodes in use."
+/// [Record 1] the record: [Record 4] the shade owed, [Record 5] last, and the
+/// counts [Record 6] [Record 7] [Record 8] [Record 9] [Record 10]
 #[derive(Clone, Copy)]
 pub struct Record {
     pub m: usize,
@@ -42,10 +40,10 @@ pub struct Record {
     pub in_use: usize,
 }
 
-/// "32 bits, stays at its largest value"
+/// [Record 7]
 pub const LARGEST_CYCLES: usize = 4_294_967_295;
 
-/// "Roots 0, nothing owed, all counts 0"
+/// [Fresh 5] the record of a new table
 fn begin(m: usize, r: usize, last: usize) -> Record {
     Record {
         m,
@@ -61,22 +59,19 @@ fn begin(m: usize, r: usize, last: usize) -> Record {
     }
 }
 
-/// "Fresh is given M and R"
+/// [Fresh 1] makes a new table of m nodes and r slots
 pub fn fresh(table: &mut Table, m: usize, r: usize) -> (usize, Record) {
     if !size_is_good(table, m, r) {
-        // "If refused, the slices keep their contents and the record has M, R,
-        // last and every count 0, Roots 0, nothing owed."
+        // [Fresh 7] [Fresh 8]
         return (SIZE, begin(0, 0, 0));
     }
     for node in 0..m {
-        // "every colour white, slot edges 0"; NIL: "Both its edges are 0."; FREE:
-        // "its right edge 0"; free nodes: "their right edges are 0"
+        // [Fresh 2] all white, [Fresh 4] edges 0 but for the free list's
         table.colours[node] = WHITE;
         table.set_edge(node, LEFT, 0);
         table.set_edge(node, RIGHT, 0);
     }
-    // "nodes R + 2 to M − 1 on the free list in rising order"; "Free nodes are
-    // chained by left edges"; "the last free node (1 if the list is empty)"
+    // [Fresh 3] the free list, [Table 7] by its left edges; [Record 5] last
     let mut last = FREE;
     for node in r + 2..m {
         table.set_edge(last, LEFT, node);
@@ -85,8 +80,7 @@ pub fn fresh(table: &mut Table, m: usize, r: usize) -> (usize, Record) {
     (DONE, begin(m, r, last))
 }
 
-/// "M is 3 to 4,096. R slots: 1 to 64, and R + 2 is at most M."  The other half
-/// of code 1 is "the three lengths and the record's M differ".
+/// [Table 1] the sizes' range, and [Codes 1] the lengths of the arrays
 fn size_is_good(table: &Table, m: usize, r: usize) -> bool {
     let in_range = m >= 3 && m <= 4096 && r >= 1 && r <= 64 && r + 2 <= m;
     let [left, right] = &table.edges;
@@ -94,13 +88,12 @@ fn size_is_good(table: &Table, m: usize, r: usize) -> bool {
 }
 
 impl Record {
-    /// "B = M×M + 5×M + R + 2."
+    /// [Record 11] B
     fn bound(&self) -> usize {
         self.m * self.m + 5 * self.m + self.r + 2
     }
 
-    /// "Roots i (i up to R + 1), Scan i with k (i below M, k from 1 to M), Left
-    /// i, Right i, Black i, Append i (i below M)"
+    /// [Record 3]
     fn position_inside(&self) -> bool {
         match self.phase {
             Phase::Roots(i) => i <= self.r + 1,
@@ -111,30 +104,30 @@ impl Record {
 
     /// Codes 1 and 2, in this order.
     pub fn judge(&self, table: &Table) -> Result<(), Refusal> {
-        // "M or R out of range, or the three lengths and the record's M differ"
+        // [Codes 1]
         if !size_is_good(table, self.m, self.r) {
             return refuse(SIZE);
         }
-        // "a position outside its phase"
+        // [Codes 2] the position
         if !self.position_inside() {
             return refuse(RECORD);
         }
-        // "owed node 1 or at least M"
+        // the node owed
         if let Some(owed) = self.owed {
             if owed == 1 || owed >= self.m {
                 return refuse(RECORD);
             }
         }
-        // "last not 1 and not in R + 2..M − 1"
+        // last
         let last_is_a_free_place = self.last >= self.r + 2 && self.last <= self.m - 1;
         if self.last != 1 && !last_is_a_free_place {
             return refuse(RECORD);
         }
-        // "blackened or nodes in use above M"
+        // the counts of nodes
         if self.blackened > self.m || self.in_use > self.m {
             return refuse(RECORD);
         }
-        // "steps at least B; last cycle's steps above B"
+        // the counts of steps
         if self.steps >= self.bound() || self.last_cycle_steps > self.bound() {
             return refuse(RECORD);
         }

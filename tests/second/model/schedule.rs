@@ -8,9 +8,7 @@ use crate::step::{do_step, Step, COLLECT};
 use crate::table::Table;
 use crate::text::{first_line, later_line, Line, Lines};
 
-/// "`collect` makes that many collector steps (0 to 1,000,000), stopping at a
-/// refusal."  "`node` is: ... collect, the position's i before its last step (0
-/// if none was made)."
+/// [Program 7] so many steps, or until one is refused; [Program 14] the node
 fn collect_many(table: &mut Table, record: &mut Record, count: usize) -> (usize, usize) {
     let mut one = Step::default();
     one.kind = COLLECT;
@@ -27,7 +25,7 @@ fn collect_many(table: &mut Table, record: &mut Record, count: usize) -> (usize,
 
 fn do_line(table: &mut Table, record: &mut Record, line: &[u8]) -> (usize, usize) {
     match later_line(line) {
-        // "prints code 10 and is skipped"
+        // [Program 9]
         None => (UNREADABLE, 0),
         Some(Line::Collect(count)) => collect_many(table, record, count),
         Some(Line::One(step)) => match do_step(table, record, &step) {
@@ -44,19 +42,19 @@ fn print(output: &mut dyn Write, code: usize, node: usize) -> io::Result<()> {
 pub fn program(input: &mut dyn BufRead, output: &mut dyn Write) -> io::Result<()> {
     let mut lines = Lines(input.bytes());
 
-    // "Empty input counts as an empty first line."
+    // [Program 12]
     let first = lines.next_line().unwrap_or_default();
-    // "a first line that fails in any way prints its code and ends the run"
+    // [Program 10]
     let Some((m, r)) = first_line(&first) else {
         return print(output, UNREADABLE, 0);
     };
-    // Of "the full 4,096 entries" M of each are lent. A size out of range is
+    // [Program 15] M entries of each array are lent. A size out of range is
     // refused whatever is lent.
     let lent = m.min(4096);
     let (edges, colours) = ([vec![0; lent], vec![0; lent]], vec![0; lent]);
     let mut table = Table { edges, colours };
     let (code, mut record) = fresh(&mut table, m, r);
-    // "`node` is: for the first line, last"
+    // [Program 13] of the first line, last
     print(output, code, record.last)?;
     if code != DONE {
         return Ok(());

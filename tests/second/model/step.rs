@@ -6,8 +6,7 @@ use crate::editor::{link, look, shade, take, Place};
 use crate::record::Record;
 use crate::table::{Table, LEFT, RIGHT};
 
-/// "The record kinds are 0 take, 1 link, 2 shade, 3 collect (one step), 4 look;
-/// fields that a kind has no use for aren't read."
+/// [Steps 1] a step's numbers, [Steps 2] its kinds, [Steps 3] and what they read
 #[derive(Clone, Copy, Default)]
 pub struct Step {
     pub kind: usize,
@@ -22,7 +21,7 @@ pub const SHADE: usize = 2;
 pub const COLLECT: usize = 3;
 pub const LOOK: usize = 4;
 
-/// "10 unreadable | kind above 4, or a side ... that isn't one of those given"
+/// [Codes 10]
 fn judge_readable(step: &Step) -> Result<(), Refusal> {
     if step.kind > LOOK {
         return refuse(UNREADABLE);
@@ -34,7 +33,7 @@ fn judge_readable(step: &Step) -> Result<(), Refusal> {
     Ok(())
 }
 
-/// "Order: 1, 2, 10, then" the rest, which each step's own function judges.
+/// [Order 1] codes 1, 2 and 10, then those that each step's own function judges
 pub fn do_step(table: &mut Table, record: &mut Record, step: &Step) -> Reply {
     record.judge(table)?;
     judge_readable(step)?;
@@ -47,12 +46,9 @@ pub fn do_step(table: &mut Table, record: &mut Record, step: &Step) -> Reply {
     }
 }
 
-/// "A schedule is a lent run of step records, done in order until one is
-/// refused, which changes nothing while the earlier ones stand; the answer is
-/// how many were done and the code."
+/// [Schedules 1] [Schedules 2] [Schedules 3]
 pub fn do_run(table: &mut Table, record: &mut Record, steps: &[Step]) -> (usize, usize) {
-    // "Codes 1 and 2 are judged for an empty run too; otherwise it answers 0
-    // and 0."
+    // [Schedules 4]
     if let Err(refusal) = record.judge(table) {
         return (0, refusal.code);
     }

@@ -3,22 +3,21 @@
 use crate::answer::{damaged, Refusal};
 use crate::record::Record;
 
-/// "Node 0 is NIL."
+/// [Table 5]
 pub const NIL: usize = 0;
-/// "Node 1 is FREE."
+/// [Table 6]
 pub const FREE: usize = 1;
 
-/// "colours, as bytes (0 white, 1 gray, 2 black)"
+/// [Table 4]
 pub const WHITE: u8 = 0;
 pub const GRAY: u8 = 1;
 pub const BLACK: u8 = 2;
 
-/// "A side is 0 left or 1 right."
+/// [Table 12]
 pub const LEFT: usize = 0;
 pub const RIGHT: usize = 1;
 
-/// "three lent slices of length M: left edges and right edges, as 16-bit
-/// numbers, and colours, as bytes".  The edges stand by their side.
+/// [Table 2] The edges stand by their side.
 pub struct Table {
     pub edges: [Vec<u16>; 2],
     pub colours: Vec<u8>,
@@ -29,14 +28,14 @@ impl Table {
         self.edges[side][node] = target as u16;
     }
 
-    /// "To shade a node: white becomes gray, gray and black stay."
+    /// [Table 11]
     pub fn shade(&mut self, node: usize) {
         if self.colours[node] == WHITE {
             self.colours[node] = GRAY;
         }
     }
 
-    /// "Bad: an edge at least M or equal to 1"
+    /// [Damage 1]
     pub fn edge(&self, record: &Record, node: usize, side: usize) -> Result<usize, Refusal> {
         let edge = self.edges[side][node] as usize;
         if edge >= record.m || edge == 1 {
@@ -45,7 +44,7 @@ impl Table {
         Ok(edge)
     }
 
-    /// "Bad: ... a free-chain edge read by Take that is 1 to R + 1 or at least M"
+    /// [Damage 2]
     pub fn free_edge(&self, record: &Record, node: usize) -> Result<usize, Refusal> {
         let edge = self.edges[LEFT][node] as usize;
         if (edge >= 1 && edge <= record.r + 1) || edge >= record.m {
@@ -54,7 +53,7 @@ impl Table {
         Ok(edge)
     }
 
-    /// "Bad: ... a colour above 2"
+    /// [Damage 3]
     pub fn colour(&self, node: usize) -> Result<u8, Refusal> {
         let colour = self.colours[node];
         if colour > BLACK {

@@ -6,7 +6,7 @@ use crate::editor::Place;
 use crate::step::{Step, LINK, LOOK, SHADE, TAKE};
 use crate::table::{LEFT, RIGHT};
 
-/// "A line over 80 bytes, its newline not counted"
+/// [Program 8]
 const LONGEST_LINE: usize = 80;
 
 /// The lines of the input. Of a line no more than 81 bytes are kept, which is
@@ -15,7 +15,7 @@ pub struct Lines<I: Iterator<Item = io::Result<u8>>>(pub I);
 
 impl<I: Iterator<Item = io::Result<u8>>> Lines<I> {
     /// The next line without its newline, or None at the end of the input.
-    /// "The last line may lack its newline."
+    /// [Program 11] The last line may end with the input.
     pub fn next_line(&mut self) -> Option<Vec<u8>> {
         let mut line = Vec::new();
         loop {
@@ -45,7 +45,7 @@ fn value<'a>(piece: &'a [u8], key: &str) -> Option<&'a [u8]> {
     piece.strip_prefix(key.as_bytes())?.strip_prefix(b"=")
 }
 
-/// "Numbers are decimal, no leading zero, at most 7 digits."
+/// [Program 4]
 fn number(piece: &[u8], key: &str) -> Option<usize> {
     let text = value(piece, key)?;
     if text.is_empty() || text.len() > 7 {
@@ -64,7 +64,7 @@ fn number(piece: &[u8], key: &str) -> Option<usize> {
     Some(result)
 }
 
-/// "Turns are letters L and R, `-` for none."  Answers count and word.
+/// [Program 5] Answers count and word.
 fn turns(piece: &[u8], key: &str) -> Option<(usize, usize)> {
     let text = value(piece, key)?;
     if text == b"-" {
@@ -86,6 +86,7 @@ fn turns(piece: &[u8], key: &str) -> Option<(usize, usize)> {
     Some((text.len(), word))
 }
 
+/// [Program 6]
 fn side(piece: &[u8]) -> Option<usize> {
     match value(piece, "side")? {
         b"L" => Some(LEFT),
@@ -101,7 +102,7 @@ fn place(to: &str, slot_piece: &[u8], turns_piece: &[u8]) -> Option<Place> {
     Some(Place { slot, count, word })
 }
 
-/// "First line `nodes=` `slots=`"
+/// [Program 2]
 pub fn first_line(line: &[u8]) -> Option<(usize, usize)> {
     match pieces(line)?[..] {
         [nodes, slots] => Some((number(nodes, "nodes")?, number(slots, "slots")?)),
@@ -115,7 +116,7 @@ pub enum Line {
     Collect(usize),
 }
 
-/// "each later line one step, keys in this order"
+/// [Program 3]
 pub fn later_line(line: &[u8]) -> Option<Line> {
     let mut step = Step::default();
     match pieces(line)?[..] {
@@ -135,7 +136,7 @@ pub fn later_line(line: &[u8]) -> Option<Line> {
             step.kind = LOOK;
             step.place = place("", slot, turns)?;
         }
-        // "(0 to 1,000,000)"; "not of this form (a larger collect count too)"
+        // [Program 7] [Program 9]
         [b"op=collect", count] => {
             let count = number(count, "count")?;
             return (count <= 1_000_000).then_some(Line::Collect(count));

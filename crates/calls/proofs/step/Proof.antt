@@ -1,8 +1,10 @@
-use Prim.Native.Nat.{_-_}
+-- For each kind, the call that is made has the definition's step of that kind by its own
+-- contract; a kind above 4 is refused as the definition says.
 use mathlib.Core.Path.{_∙_}
 use lib.ListN.{take}
 use borrow.Author.Needs.{needs}
-use Rattle.calls.proofs.Named.{kind-take, kind-link, kind-shade, kind-collect, kind-look, kind-none}
+use Rattle.calls.proofs.Named.{kind-take, kind-link, kind-shade, kind-collect, kind-look}
+use Rattle.calls.proofs.Named.{kind-none}
 use Rattle.calls.specs.Unreadable.{unreadable}
 use Rattle.calls.proofs.step.Statement.{statement}
 use Rattle.calls.proofs.step.Tie as tie
@@ -23,7 +25,11 @@ same-length-3 : tie.Need-same-length-3
 same-length-3 c = search needs
 
 returns : tie.Need-returns
-returns c = c .before .before .before .before .before .before .take .ensures ∙ kind-take _ _ _ (c .before .before .before .before .before .before .before .source .ensures) (c .before .before .before .before .before .before .before .before .before .before .before .if1 .taken)
+returns c =
+    let at-take = c .before .before .before .before .before .before in
+    let at-source = at-take .before in
+    let at-if1 = at-source .before .before .before .before in
+    at-take .take .ensures ∙ kind-take _ _ _ (at-source .source .ensures) (at-if1 .if1 .taken)
 
 source-requires-2 : tie.Need-source-requires-2
 source-requires-2 c κs = search needs
@@ -44,7 +50,12 @@ same-length-6 : tie.Need-same-length-6
 same-length-6 c = search needs
 
 returns-2 : tie.Need-returns-2
-returns-2 c = c .before .before .before .before .link .ensures ∙ kind-link _ _ _ _ (c .before .before .before .before .before .before .source2 .ensures) (c .before .before .before .before .before .target .ensures) (c .before .before .before .before .before .before .before .before .before .before .if2 .taken)
+returns-2 c =
+    let at-source2 = c .before .before .before .before .before .before in
+    let at-if2 = at-source2 .before .before .before .before in
+    c .before .before .before .before .link .ensures
+    ∙ kind-link _ _ _ _ (at-source2 .source2 .ensures)
+    (c .before .before .before .before .before .target .ensures) (at-if2 .if2 .taken)
 
 shade-requires : tie.Need-shade-requires
 shade-requires c κs = search needs
@@ -59,7 +70,9 @@ same-length-9 : tie.Need-same-length-9
 same-length-9 c = search needs
 
 returns-3 : tie.Need-returns-3
-returns-3 c = c .before .before .shade .ensures ∙ kind-shade _ _ (c .before .before .before .before .before .before .if3 .taken)
+returns-3 c =
+    let at-if3 = c .before .before .before .before .before .before in
+    c .before .before .shade .ensures ∙ kind-shade _ _ (at-if3 .if3 .taken)
 
 collect-requires : tie.Need-collect-requires
 collect-requires c κs = search needs
@@ -74,7 +87,10 @@ same-length-12 : tie.Need-same-length-12
 same-length-12 c = search needs
 
 returns-4 : tie.Need-returns-4
-returns-4 c = c .before .before .before .before .before .before .collect .ensures ∙ kind-collect _ _ (c .before .before .before .before .before .before .before .before .before .before .if4 .taken)
+returns-4 c =
+    let at-collect = c .before .before .before .before .before .before in
+    let at-if4 = at-collect .before .before .before .before in
+    at-collect .collect .ensures ∙ kind-collect _ _ (at-if4 .if4 .taken)
 
 source-requires-3 : tie.Need-source-requires-3
 source-requires-3 c κs = search needs
@@ -92,14 +108,25 @@ same-length-15 : tie.Need-same-length-15
 same-length-15 c = search needs
 
 returns-5 : tie.Need-returns-5
-returns-5 c = c .look .ensures ∙ kind-look _ _ _ (c .before .source3 .ensures) (c .before .before .before .before .before .if5 .taken)
+returns-5 c =
+    c .look .ensures ∙ kind-look _ _ _ (c .before .source3 .ensures)
+    (c .before .before .before .before .before .if5 .taken)
 
 unreadable-requires : tie.Need-unreadable-requires
 unreadable-requires c κs = search needs
 
+refusal-requires : tie.Need-refusal-requires
+refusal-requires c κs = search needs
+
 returns-6 : tie.Need-returns-6
 unfolding unreadable
-returns-6 c = kind-none _ _ _ (c .unreadable .ensures) (c .before .before .before .before .before .if1 .left) (c .before .before .before .before .if2 .left) (c .before .before .before .if3 .left) (c .before .before .if4 .left) (c .before .if5 .left)
+returns-6 c =
+    let at-if5 = c .before .before in
+    let at-if3 = at-if5 .before .before in
+    rw (c .refusal .ensures)
+    (kind-none _ _ _ (c .before .unreadable .ensures) (at-if3 .before .before .if1 .left)
+    (at-if3 .before .if2 .left) (at-if3 .if3 .left) (at-if5 .before .if4 .left)
+    (at-if5 .if5 .left))
 
 pub step-spec : {M : Type 1} → statement M
 step-spec =
@@ -135,4 +162,5 @@ step-spec =
     same-length-15
     returns-5
     unreadable-requires
+    refusal-requires
     returns-6)

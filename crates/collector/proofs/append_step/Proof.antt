@@ -1,4 +1,4 @@
-use Prim.Native.Nat.{_-_}
+-- The colour decides, as in the definition; a white node is `append_white`'s.
 use borrow.Author.Needs.{needs}
 use Rattle.base.proofs.Tests.{tests}
 use Rattle.rules.specs.Collector.{appendStep}
@@ -36,11 +36,15 @@ same-length-3 c = search needs
 
 returns-2 : tie.Need-returns-2
 unfolding appendStep
-returns-2 c = search (c .before .before .before .before .append-white .ensures, tests, needs) depth 12
+returns-2 c =
+    search (c .before .before .before .before .append-white .ensures, tests, needs) depth 12
+
+refusal-requires : tie.Need-refusal-requires
+refusal-requires c κs = search needs
 
 returns-3 : tie.Need-returns-3
 unfolding appendStep
-returns-3 c = search (same, tests, needs) depth 12
+returns-3 c = rw (c .refusal .ensures) (search (tests, needs) depth 12)
 
 pub append-step-spec : {M : Type 1} → statement M
 append-step-spec =
@@ -56,4 +60,5 @@ append-step-spec =
     same-length-2
     same-length-3
     returns-2
+    refusal-requires
     returns-3)

@@ -1,4 +1,5 @@
-use Prim.Native.Nat.{_-_}
+-- The colour written and the record are the definition's; blackened is at most M, so that one
+-- more fits.
 use borrow.Author.Needs.{needs}
 use Rattle.base.proofs.Tests.{tests}
 use Rattle.rules.specs.Collector.{blackStep}
@@ -17,7 +18,7 @@ same-length c = search needs
 
 returns : tie.Need-returns
 unfolding blackStep
-returns c = λ l k. search (same, tests, needs) depth 12
+returns c = λ es. search (same, tests, needs) depth 12
 
 pub black-step-spec : {M : Type 1} → statement M
 black-step-spec = tie.close (tie.spec slice-write-colour rescan-requires same-length returns)

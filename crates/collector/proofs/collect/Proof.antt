@@ -1,4 +1,5 @@
-use Prim.Native.Nat.{_-_}
+-- Where codes 1 and 2 are not given, the record and the lengths are good and the phase's
+-- position is in range, which is all that `phase_step` asks.
 use mathlib.Core.Path.{sym, _∙_}
 use borrow.Author.Needs.{needs}
 use Rattle.rules.specs.Collector.{collect}
@@ -10,12 +11,23 @@ use Rattle.collector.proofs.collect.Tie as tie
 check-requires : tie.Need-check-requires
 check-requires c κs = search needs
 
+refusal-requires : tie.Need-refusal-requires
+refusal-requires c κs = search needs
+
 returns : tie.Need-returns
 unfolding collect
-returns c = rw step-collecting (unless-refused _ _ _ _ (c .before .check .ensures) (c .if1 .taken))
+returns c =
+    rw (step-collecting, c .refusal .ensures)
+    (unless-refused _ _ _ _ (c .before .before .check .ensures) (c .before .if1 .taken))
 
 phase-step-requires : tie.Need-phase-step-requires
-phase-step-requires c κs = (good _ _ _ _ (sym (c .before .before .before .if1 .left) ∙ c .before .before .before .before .check .ensures), inside _ _ _ _ (sym (c .before .before .before .if1 .left) ∙ c .before .before .before .before .check .ensures))
+phase-step-requires c κs = (
+  good _ _ _ _ (sym (c .before .before .before .if1 .left)
+      ∙ c .before .before .before .before .check .ensures),
+  inside _ _ _
+      (sym (c .before .before .before .if1 .left)
+      ∙ c .before .before .before .before .check .ensures),
+)
 
 same-length : tie.Need-same-length
 same-length c = search needs
@@ -28,13 +40,19 @@ same-length-3 c = search needs
 
 returns-2 : tie.Need-returns-2
 unfolding collect
-returns-2 c = rw step-collecting (unless-done _ _ _ _ _ (c .before .before .before .before .before .before .before .before .before .before .before .check .ensures) (c .before .before .before .before .before .before .before .before .before .before .if1 .left) (c .before .before .before .before .before .before .phase-step .ensures))
+returns-2 c =
+    let at-phase-step = c .before .before .before .before .before .before in
+    let at-if1 = at-phase-step .before .before .before .before in
+    let at-check = at-if1 .before in
+    rw step-collecting (unless-done _ _ _ _ _ (at-check .check .ensures) (at-if1 .if1 .left)
+    (at-phase-step .phase-step .ensures))
 
 pub collect-spec : {M : Type 1} → statement M
 collect-spec =
     tie.close
     (tie.spec
     check-requires
+    refusal-requires
     returns
     phase-step-requires
     same-length

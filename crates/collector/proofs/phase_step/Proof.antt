@@ -1,4 +1,5 @@
-use Prim.Native.Nat.{_-_}
+-- In each arm the phase is known, and the definition at it is the arm's call. What the call asks
+-- follows from the record's test and the phase's position.
 use native.Mathlib.Omega.{arith}
 use borrow.Author.Needs.{needs}
 use Rattle.rules.specs.Collector.{phaseStep}
@@ -9,22 +10,32 @@ enum-known-phase : tie.Need-enum-known-phase
 enum-known-phase c = search needs
 
 after-roots-requires : tie.Need-after-roots-requires
-after-roots-requires c κs = let h = rw (c .before .before .phase .given .1) at (c .before .before .before .before .before .before .before .pre .1) in omega arith
+after-roots-requires c κs =
+    let at-entry = c .before .before .before .before .before .before .before in
+    let h = rw (c .before .before .phase .given .1) at (at-entry .pre .1) in omega arith
 
 shade-step-requires : tie.Need-shade-step-requires
-shade-step-requires c κs = let h = rw (c .before .before .before .phase .given .1) at (c .before .before .before .before .before .before .before .before .pre .1) in omega arith
+shade-step-requires c κs =
+    let at-entry = c .before .before .before .before .before .before .before .before in
+    let h = rw (c .before .before .before .phase .given .1) at (at-entry .pre .1) in omega arith
 
 enum-known-phase-2 : tie.Need-enum-known-phase-2
 enum-known-phase-2 c = search needs
 
 scan-step-requires : tie.Need-scan-step-requires
-scan-step-requires c κs = let h = rw (c .before .before .phase2 .given .1) at (c .before .before .before .before .before .before .before .pre .1) in omega arith
+scan-step-requires c κs =
+    let at-entry = c .before .before .before .before .before .before .before in
+    let h = rw (c .before .before .phase2 .given .1) at (at-entry .pre .1) in omega arith
 
 enum-known-phase-3 : tie.Need-enum-known-phase-3
 enum-known-phase-3 c = search needs
 
 edge-requires : tie.Need-edge-requires
-edge-requires c κs = let h = rw (c .before .before .before .before .phase3 .given .1) at (c .before .before .before .before .before .before .before .before .before .pre .1) in omega arith
+edge-requires c κs =
+    let at-entry = c .before .before .before .before .before .before .before .before .before in
+    let h =
+    rw (c .before .before .before .before .phase3 .given .1) at (at-entry .pre .1) in
+    omega arith
 
 edge-step-requires : tie.Need-edge-step-requires
 edge-step-requires c κs = search needs
@@ -33,7 +44,11 @@ enum-known-phase-4 : tie.Need-enum-known-phase-4
 enum-known-phase-4 c = search needs
 
 edge-requires-2 : tie.Need-edge-requires-2
-edge-requires-2 c κs = let h = rw (c .before .before .before .before .phase4 .given .1) at (c .before .before .before .before .before .before .before .before .before .pre .1) in omega arith
+edge-requires-2 c κs =
+    let at-entry = c .before .before .before .before .before .before .before .before .before in
+    let h =
+    rw (c .before .before .before .before .phase4 .given .1) at (at-entry .pre .1) in
+    omega arith
 
 edge-step-requires-2 : tie.Need-edge-step-requires-2
 edge-step-requires-2 c κs = search needs
@@ -42,27 +57,36 @@ enum-known-phase-5 : tie.Need-enum-known-phase-5
 enum-known-phase-5 c = search needs
 
 black-step-requires : tie.Need-black-step-requires
-black-step-requires c κs = let h = rw (c .before .before .phase5 .given .1) at (c .before .before .before .before .before .before .before .pre .1) in omega arith
+black-step-requires c κs =
+    let at-entry = c .before .before .before .before .before .before .before in
+    let h = rw (c .before .before .phase5 .given .1) at (at-entry .pre .1) in omega arith
 
 enum-known-phase-6 : tie.Need-enum-known-phase-6
 enum-known-phase-6 c = search needs
 
 append-step-requires : tie.Need-append-step-requires
-append-step-requires c κs = let h = rw (c .before .before .before .before .phase6 .given .1) at (c .before .before .before .before .before .before .before .before .before .pre .1) in omega arith
+append-step-requires c κs =
+    let at-entry = c .before .before .before .before .before .before .before .before .before in
+    let h =
+    rw (c .before .before .before .before .phase6 .given .1) at (at-entry .pre .1) in
+    omega arith
 
 same-length : tie.Need-same-length
 same-length c = search needs
 
 returns : tie.Need-returns
 unfolding phaseStep
-returns c = rw (c .before .before .before .before .before .before .phase .given .1, ← c .before .before .before .after-roots .ensures) (c .before .before .shade-step .ensures _ _)
+returns c =
+    let at-phase = c .before .before .before .before .before .before in
+    rw (at-phase .phase .given .1, ← c .before .before .before .after-roots .ensures)
+    (c .before .before .shade-step .ensures _)
 
 same-length-2 : tie.Need-same-length-2
 same-length-2 c = search needs
 
 returns-2 : tie.Need-returns-2
 unfolding phaseStep
-returns-2 c = rw (c .before .before .before .phase2 .given .1) (c .scan-step .ensures _ _)
+returns-2 c = rw (c .before .before .before .phase2 .given .1) (c .scan-step .ensures _)
 
 same-length-3 : tie.Need-same-length-3
 same-length-3 c = search needs
@@ -75,7 +99,10 @@ same-length-5 c = search needs
 
 returns-3 : tie.Need-returns-3
 unfolding phaseStep
-returns-3 c = rw (c .before .before .before .before .before .before .before .before .phase3 .given .1, ← c .before .before .before .edge .ensures) (c .before .before .edge-step .ensures _ _)
+returns-3 c =
+    let at-phase3 = c .before .before .before .before .before .before .before .before in
+    rw (at-phase3 .phase3 .given .1, ← c .before .before .before .edge .ensures)
+    (c .before .before .edge-step .ensures _)
 
 same-length-6 : tie.Need-same-length-6
 same-length-6 c = search needs
@@ -88,14 +115,19 @@ same-length-8 c = search needs
 
 returns-4 : tie.Need-returns-4
 unfolding phaseStep
-returns-4 c = rw (c .before .before .before .before .before .before .before .before .phase4 .given .1, ← c .before .before .before .edge2 .ensures) (c .before .before .edge-step2 .ensures _ _)
+returns-4 c =
+    let at-phase4 = c .before .before .before .before .before .before .before .before in
+    rw (at-phase4 .phase4 .given .1, ← c .before .before .before .edge2 .ensures)
+    (c .before .before .edge-step2 .ensures _)
 
 same-length-9 : tie.Need-same-length-9
 same-length-9 c = search needs
 
 returns-5 : tie.Need-returns-5
 unfolding phaseStep
-returns-5 c = rw (c .before .before .before .before .before .phase5 .given .1) (c .before .before .black-step .ensures _ _)
+returns-5 c =
+    rw (c .before .before .before .before .before .phase5 .given .1)
+    (c .before .before .black-step .ensures _)
 
 same-length-10 : tie.Need-same-length-10
 same-length-10 c = search needs
@@ -108,7 +140,10 @@ same-length-12 c = search needs
 
 returns-6 : tie.Need-returns-6
 unfolding phaseStep
-returns-6 c = rw (c .before .before .before .before .before .before .before .before .before .before .before .phase6 .given .1) (c .before .before .before .before .before .before .append-step .ensures)
+returns-6 c =
+    let at-append-step = c .before .before .before .before .before .before in
+    let at-phase6 = at-append-step .before .before .before .before .before in
+    rw (at-phase6 .phase6 .given .1) (at-append-step .append-step .ensures)
 
 pub phase-step-spec : {M : Type 1} → statement M
 phase-step-spec =

@@ -1,4 +1,4 @@
-use Prim.Native.Nat.{_-_}
+-- The tests stand in the definition's order, and each return is its case.
 use borrow.Author.Needs.{needs}
 use Rattle.base.proofs.Tests.{tests}
 use Rattle.rules.specs.Collector.{scanStep}
@@ -11,7 +11,10 @@ shared-slice-read-if1 c = search needs
 
 returns : tie.Need-returns
 unfolding scanStep
-returns c = λ l k. search (same, tests, needs) depth 12
+returns c = λ es. rw (c .refusal .ensures) (search (tests, needs) depth 12)
+
+refusal-requires : tie.Need-refusal-requires
+refusal-requires c κs = search needs
 
 shared-slice-read-if2 : tie.Need-shared-slice-read-if2
 shared-slice-read-if2 c = search needs
@@ -21,44 +24,45 @@ moved-requires c κs = search needs
 
 returns-2 : tie.Need-returns-2
 unfolding scanStep
-returns-2 c = λ l k. search (same, tests, needs) depth 12
+returns-2 c = λ es. search (same, tests, needs) depth 12
 
 marked-requires : tie.Need-marked-requires
 marked-requires c κs = search needs
 
 returns-3 : tie.Need-returns-3
 unfolding scanStep
-returns-3 c = λ l k. search (same, tests, needs) depth 12
+returns-3 c = λ es. search (same, tests, needs) depth 12
 
-add-t18 : tie.Need-add-t18
-add-t18 c = search needs
+add-t17 : tie.Need-add-t17
+add-t17 c = search needs
 
-rem-t19 : tie.Need-rem-t19
-rem-t19 c = search needs
+rem-t18 : tie.Need-rem-t18
+rem-t18 c = search needs
 
-sub-t20 : tie.Need-sub-t20
-sub-t20 c = search needs
+sub-t19 : tie.Need-sub-t19
+sub-t19 c = search needs
 
 moved-requires-2 : tie.Need-moved-requires-2
 moved-requires-2 c κs = search needs
 
 returns-4 : tie.Need-returns-4
 unfolding scanStep
-returns-4 c = λ l k. search (same, tests, needs) depth 12
+returns-4 c = λ es. search (same, tests, needs) depth 12
 
 pub scan-step-spec : {M : Type 1} → statement M
 scan-step-spec =
     tie.close
     (tie.spec
     shared-slice-read-if1
+    refusal-requires
     returns
     shared-slice-read-if2
     moved-requires
     returns-2
     marked-requires
     returns-3
-    add-t18
-    rem-t19
-    sub-t20
+    add-t17
+    rem-t18
+    sub-t19
     moved-requires-2
     returns-4)

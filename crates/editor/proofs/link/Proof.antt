@@ -1,4 +1,5 @@
-use Prim.Native.Nat.{_-_}
+-- The codes come in the definition's order. Where all are 0, the record is good and the slots
+-- and the side are in range, which is all that `link_from` asks.
 use mathlib.Core.Path.{sym, _∙_}
 use native.Mathlib.Omega.{arith}
 use borrow.Author.Needs.{needs}
@@ -6,21 +7,37 @@ use Rattle.base.proofs.Tests.{zeros}
 use Rattle.rules.specs.Editor.{link}
 use Rattle.rules.proofs.Good.{good}
 use Rattle.rules.proofs.Laws.{unless-done, unless-refused, step-linking}
-use Rattle.rules.proofs.Walks.{slot-below}
-use Rattle.editor.specs.Codes.{linkCode}
+use Rattle.rules.proofs.Walks.{slot-below, side-below}
+use Rattle.places.specs.Sources.{editCode}
 use Rattle.editor.proofs.link.Statement.{statement}
 use Rattle.editor.proofs.link.Tie as tie
 
-link-code-requires : tie.Need-link-code-requires
-link-code-requires c κs = search needs
+place-code-requires : tie.Need-place-code-requires
+place-code-requires c κs = search needs
+
+edit-code-requires : tie.Need-edit-code-requires
+edit-code-requires c κs = search needs
+
+refusal-requires : tie.Need-refusal-requires
+refusal-requires c κs = search needs
 
 returns : tie.Need-returns
-unfolding link linkCode
-returns c = rw step-linking (unless-refused _ _ _ _ (c .before .link-code .ensures) (c .if1 .taken))
+unfolding link editCode
+returns c =
+    let at-edit-code = c .before .before in
+    let target = at-edit-code .before .place-code .ensures in
+    let code = rw target at (at-edit-code .edit-code .ensures) in
+    rw (step-linking, c .refusal .ensures) (unless-refused _ _ _ _ code (c .before .if1 .taken))
 
 link-from-requires : tie.Need-link-from-requires
-unfolding linkCode
-link-from-requires c κs = let z = zeros _ (sym (c .before .before .if1 .left) ∙ c .before .before .before .link-code .ensures) in let g = good _ _ _ _ (z .0) in let p = slot-below _ _ (z .1 .1 .0) in let q = slot-below _ _ (z .1 .1 .1 .0) in omega arith
+unfolding editCode
+link-from-requires c κs =
+    let at-if1 = c .before .before in
+    let target = at-if1 .before .before .place-code .ensures in
+    let code = rw target at (at-if1 .before .edit-code .ensures) in
+    let z = zeros _ (sym (at-if1 .if1 .left) ∙ code) in
+    let g = good _ _ _ _ (z .0) in let p = slot-below _ _ _ (z .1 .1 .0) in
+    let q = slot-below _ _ _ (z .1 .1 .1 .0) in let d = side-below _ _ (z .1 .0) in omega arith
 
 same-length : tie.Need-same-length
 same-length c = search needs
@@ -29,10 +46,23 @@ same-length-2 : tie.Need-same-length-2
 same-length-2 c = search needs
 
 returns-2 : tie.Need-returns-2
-unfolding link linkCode
-returns-2 c = rw step-linking (unless-done _ _ _ _ _ (c .before .before .before .before .before .before .before .before .link-code .ensures) (c .before .before .before .before .before .before .before .if1 .left) (c .before .before .before .before .link-from .ensures _))
+unfolding link editCode
+returns-2 c =
+    let at-if1 = c .before .before .before .before .before .before .before in
+    let target = at-if1 .before .before .place-code .ensures in
+    let code = rw target at (at-if1 .before .edit-code .ensures) in
+    rw step-linking (unless-done _ _ _ _ _ code (at-if1 .if1 .left)
+    (c .before .before .before .before .link-from .ensures _))
 
 pub link-spec : {M : Type 1} → statement M
 link-spec =
     tie.close
-    (tie.spec link-code-requires returns link-from-requires same-length same-length-2 returns-2)
+    (tie.spec
+    place-code-requires
+    edit-code-requires
+    refusal-requires
+    returns
+    link-from-requires
+    same-length
+    same-length-2
+    returns-2)

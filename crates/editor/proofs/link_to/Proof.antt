@@ -1,4 +1,5 @@
-use Prim.Native.Nat.{_-_}
+-- The walk's contract says where the target is. It lies in the table; the edge written and the
+-- record that owes are the definition's.
 use borrow.Author.Needs.{needs}
 use Rattle.rules.specs.Editor.{linkTo}
 use Rattle.places.proofs.Arrivals.{arrives, stops, leaves}
@@ -17,6 +18,9 @@ enum-told c = search needs
 stood-requires : tie.Need-stood-requires
 stood-requires c κs = search needs
 
+refusal-requires : tie.Need-refusal-requires
+refusal-requires c κs = search needs
+
 same-length : tie.Need-same-length
 same-length c = search needs
 
@@ -25,7 +29,10 @@ same-length-2 c = search needs
 
 returns : tie.Need-returns
 unfolding linkTo
-returns c = λ k. stops _ _ _ _ _ _ (c .before .before .before .walk .ensures) (c .before .enum-told .given .1) (c .stood .ensures)
+returns c =
+    λ k. rw (c .refusal .ensures)
+    (stops _ _ _ _ _ _ (c .before .before .before .before .walk .ensures)
+    (c .before .before .enum-told .given .1) (c .before .stood .ensures))
 
 set-edge-requires : tie.Need-set-edge-requires
 set-edge-requires c κs = search needs
@@ -41,7 +48,14 @@ same-length-4 c = search needs
 
 returns-2 : tie.Need-returns-2
 unfolding linkTo
-returns-2 c = λ k. arrives _ _ _ _ _ _ (c .before .before .before .before .before .before .before .before .before .before .before .walk .ensures) (c .before .before .before .before .before .before .before .before .before .to .given .1) (leaves _ (c .before .before .before .before .before .before .before .before .before .before .before .before .before .before .before .before .args .x) _ _ _ _ _ _ (c .before .before .before .before .before .set-edge .ensures k (c .before .before .before .before .before .before .before .before .before .before .before .before .before .before .before .before .args .x)) (c .owing .ensures))
+returns-2 c =
+    let at-to = c .before .before .before .before .before .before .before .before .before in
+    let at-walk = at-to .before .before in
+    let at-entry = at-walk .before .before .before .before .before in
+    λ k. arrives _ _ _ _ _ _ (at-walk .walk .ensures) (at-to .to .given .1)
+    (leaves _ (at-entry .args .x) _ _ _ _ _ _
+    (c .before .before .before .before .before .set-edge .ensures k (at-entry .args .x))
+    (c .owing .ensures))
 
 pub link-to-spec : {M : Type 1} → statement M
 link-to-spec =
@@ -51,6 +65,7 @@ link-to-spec =
     enum-known-to
     enum-told
     stood-requires
+    refusal-requires
     same-length
     same-length-2
     returns

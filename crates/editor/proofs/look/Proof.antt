@@ -1,4 +1,5 @@
-use Prim.Native.Nat.{_-_}
+-- Where no code is given, the slot is one and the record is good, so the walk can be made; what
+-- it answers is what the definition takes apart.
 use mathlib.Core.Path.{refl, sym, _∙_}
 use native.Mathlib.Omega.{arith}
 use borrow.Author.Needs.{needs}
@@ -15,13 +16,20 @@ use Rattle.editor.proofs.look.Tie as tie
 look-code-requires : tie.Need-look-code-requires
 look-code-requires c κs = search needs
 
+refusal-requires : tie.Need-refusal-requires
+refusal-requires c κs = search needs
+
 returns : tie.Need-returns
 unfolding look lookCode
-returns c = rw step-looking (unless-refused _ _ _ _ (c .before .look-code .ensures) (c .if1 .taken))
+returns c =
+    rw (step-looking, c .refusal .ensures)
+    (unless-refused _ _ _ _ (c .before .before .look-code .ensures) (c .before .if1 .taken))
 
 walk-requires : tie.Need-walk-requires
 unfolding lookCode
-walk-requires c κs = let z = zeros _ (sym (c .if1 .left) ∙ c .before .look-code .ensures) in let g = good _ _ _ _ (z .0) in let k = slot-below _ _ (z .1 .0) in omega arith
+walk-requires c κs = let z =
+    zeros _ (sym (c .if1 .left) ∙ c .before .look-code .ensures) in let g = good _ _ _ _ (z .0) in
+    let k = slot-below _ _ _ (z .1 .0) in omega arith
 
 enum-known-found : tie.Need-enum-known-found
 enum-known-found c = search needs
@@ -32,23 +40,38 @@ enum-told c = search needs
 stood-requires : tie.Need-stood-requires
 stood-requires c κs = search needs
 
+refusal-requires-2 : tie.Need-refusal-requires-2
+refusal-requires-2 c κs = search needs
+
 returns-2 : tie.Need-returns-2
 unfolding look lookCode
-returns-2 c = rw step-looking (unless-done _ _ _ _ _ (c .before .before .before .before .before .look-code .ensures) (c .before .before .before .before .if1 .left) (stops _ _ _ _ _ _ (c .before .before .before .walk .ensures) (c .before .enum-told .given .1) (c .stood .ensures)))
+returns-2 c =
+    let at-walk = c .before .before .before .before in
+    rw (step-looking, c .refusal2 .ensures) (unless-done _ _ _ _ _
+    (at-walk .before .before .look-code .ensures) (at-walk .before .if1 .left)
+    (stops _ _ _ _ _ _ (at-walk .walk .ensures) (c .before .before .enum-told .given .1)
+    (c .before .stood .ensures)))
 
 returns-3 : tie.Need-returns-3
 unfolding look lookCode
-returns-3 c = rw step-looking (unless-done _ _ _ _ _ (c .before .before .before .before .before .look-code .ensures) (c .before .before .before .before .if1 .left) (arrives _ _ _ _ _ _ (c .before .before .before .walk .ensures) (c .before .found .given .1) refl))
+returns-3 c =
+    rw step-looking (unless-done _ _ _ _ _
+    (c .before .before .before .before .before .look-code .ensures)
+    (c .before .before .before .before .if1 .left)
+    (arrives _ _ _ _ _ _ (c .before .before .before .walk .ensures) (c .before .found .given .1)
+    refl))
 
 pub look-spec : {M : Type 1} → statement M
 look-spec =
     tie.close
     (tie.spec
     look-code-requires
+    refusal-requires
     returns
     walk-requires
     enum-known-found
     enum-told
     stood-requires
+    refusal-requires-2
     returns-2
     returns-3)

@@ -1,4 +1,4 @@
-use Prim.Native.Nat.{_-_}
+-- Each arm is a case of the definition; a node that may be owed lies in the table.
 use mathlib.Core.Path.{subst}
 use lib.ListN.{length}
 use native.Mathlib.Omega.{arith}
@@ -13,6 +13,9 @@ use Rattle.editor.proofs.pay.Tie as tie
 enum-told : tie.Need-enum-told
 enum-told c = search needs
 
+refusal-requires : tie.Need-refusal-requires
+refusal-requires c κs = search needs
+
 enum-known-owed : tie.Need-enum-known-owed
 enum-known-owed c = search needs
 
@@ -20,37 +23,53 @@ cast-at : tie.Need-cast-at
 cast-at c = search needs
 
 slice-read-if1 : tie.Need-slice-read-if1
-slice-read-if1 c = let h = subst (Owable (length (c .before .before .before .before .before .args .colour .now))) (c .before .before .owed .given .1) (c .before .before .before .before .before .pre) in omega arith
+slice-read-if1 c = let h =
+    subst (Owable (length (c .before .before .before .before .before .args .colour .now)))
+    (c .before .before .owed .given .1) (c .before .before .before .before .before .pre) in
+    omega arith
+
+refusal-requires-2 : tie.Need-refusal-requires-2
+refusal-requires-2 c κs = search needs
 
 returns : tie.Need-returns
 unfolding pay
-returns c = λ l k. rw (c .before .before .before .owed .given .1) (search (same, tests, needs) depth 12)
+returns c =
+    λ es. rw (c .refusal2 .ensures, c .before .before .before .before .owed .given .1)
+    (search (tests, needs) depth 12)
 
 shade-node-requires : tie.Need-shade-node-requires
-shade-node-requires c κs = let h = subst (Owable (length (c .before .before .before .before .before .before .before .args .colour .now))) (c .before .before .before .before .owed .given .1) (c .before .before .before .before .before .before .before .pre) in omega arith
+shade-node-requires c κs =
+    let at-entry = c .before .before .before .before .before .before .before in
+    let h =
+    subst (Owable (length (at-entry .args .colour .now)))
+    (c .before .before .before .before .owed .given .1) (at-entry .pre) in omega arith
 
 paid-requires : tie.Need-paid-requires
 paid-requires c κs = search needs
 
 returns-2 : tie.Need-returns-2
 unfolding pay
-returns-2 c = λ l k. rw (c .enum-told .given .1)
+returns-2 c = λ es. rw (c .refusal .ensures, c .before .enum-told .given .1)
 
 same-length : tie.Need-same-length
 same-length c = search needs
 
 returns-3 : tie.Need-returns-3
 unfolding pay
-returns-3 c = λ l k. rw (c .before .before .before .before .before .before .before .before .owed .given .1) (search (same, tests, needs) depth 12)
+returns-3 c =
+    let at-owed = c .before .before .before .before .before .before .before .before in
+    λ es. rw (at-owed .owed .given .1) (search (same, tests, needs) depth 12)
 
 pub pay-spec : {M : Type 1} → statement M
 pay-spec =
     tie.close
     (tie.spec
     enum-told
+    refusal-requires
     enum-known-owed
     cast-at
     slice-read-if1
+    refusal-requires-2
     returns
     shade-node-requires
     paid-requires

@@ -1,4 +1,5 @@
-use Prim.Native.Nat.{_-_}
+-- Where codes 1 and 2 are not given, the node owed lies in the table, which is all that `pay`
+-- asks.
 use mathlib.Core.Path.{sym, _∙_}
 use borrow.Author.Needs.{needs}
 use Rattle.rules.specs.Editor.{pay, shadeOwed}
@@ -10,19 +11,38 @@ use Rattle.editor.proofs.shade.Tie as tie
 check-requires : tie.Need-check-requires
 check-requires c κs = search needs
 
+refusal-requires : tie.Need-refusal-requires
+refusal-requires c κs = search needs
+
 returns : tie.Need-returns
 unfolding shadeOwed
-returns c = rw step-shading (unless-refused _ _ _ _ (c .before .check .ensures) (c .if1 .taken))
+returns c =
+    rw (step-shading, c .refusal .ensures)
+    (unless-refused _ _ _ _ (c .before .before .check .ensures) (c .before .if1 .taken))
 
 pay-requires : tie.Need-pay-requires
-pay-requires c κs = let g = good _ _ _ _ (sym (c .before .if1 .left) ∙ c .before .before .check .ensures) in rw (g .colours) (owable _ _ _ _ (sym (c .before .if1 .left) ∙ c .before .before .check .ensures))
+pay-requires c κs = let g =
+    good _ _ _ _ (sym (c .before .if1 .left) ∙ c .before .before .check .ensures) in
+    rw (g .colours)
+    (owable _ _ _ (sym (c .before .if1 .left) ∙ c .before .before .check .ensures))
 
 same-length : tie.Need-same-length
 same-length c = search needs
 
 returns-2 : tie.Need-returns-2
 unfolding shadeOwed
-returns-2 c = rw step-shading (unless-done _ _ _ _ _ (c .before .before .before .before .before .check .ensures) (c .before .before .before .before .if1 .left) (c .before .before .pay .ensures _ _))
+returns-2 c =
+    rw step-shading (unless-done _ _ _ _ _
+    (c .before .before .before .before .before .check .ensures)
+    (c .before .before .before .before .if1 .left) (c .before .before .pay .ensures _))
 
 pub shade-spec : {M : Type 1} → statement M
-shade-spec = tie.close (tie.spec check-requires returns pay-requires same-length returns-2)
+shade-spec =
+    tie.close
+    (tie.spec
+    check-requires
+    refusal-requires
+    returns
+    pay-requires
+    same-length
+    returns-2)

@@ -1,3 +1,5 @@
+-- The first n entries of each list are those of the definition: a turn adds one to each, and at
+-- M the lists are whole.
 use Prim.Native.Nat.{_-_, _≤_}
 use mathlib.Core.Path.{_≡_, refl}
 use lib.ListN.{length, take, length-set}
@@ -9,7 +11,9 @@ use Rattle.fresh.proofs.fill.Tie as tie
 
 abbrev Inv-loop : tie.InvT-loop
 Inv-loop left₀ right₀ colour₀ m r n₀ left right colour n =
-    (n ≤ m) × (length left ≡ m) × (length right ≡ m) × (length colour ≡ m) × (take n left ≡ tabulate (freshLeft m r) n) × (take n right ≡ tabulate noEdge n) × (take n colour ≡ tabulate allWhite n)
+    (n ≤ m) × (length left ≡ m) × (length right ≡ m) × (length colour ≡ m) ×
+    (take n left ≡ tabulate (freshLeft m r) n) × (take n right ≡ tabulate noEdge n) ×
+    (take n colour ≡ tabulate allWhite n)
 
 abbrev μ-loop : tie.MeasureT-loop
 μ-loop left₀ right₀ colour₀ m r n₀ left right colour n = m - n
@@ -45,7 +49,22 @@ loop-less : tie.Need-loop-less Inv-loop μ-loop
 loop-less c = omega arith
 
 loop-again : tie.Need-loop-again Inv-loop μ-loop
-loop-again c = (omega arith, simp length-set (omega arith), simp length-set (omega arith), simp length-set (omega arith), more (freshLeft (c .before .before .before .before .before .before .args .m) (c .before .before .before .before .before .before .args .r)) (c .before .before .loop .left) (c .before .before .loop .n) (c .left-of .result) (omega arith) (c .before .before .loop .inv .4) (c .left-of .ensures), more noEdge (c .before .before .loop .right) (c .before .before .loop .n) 0 (omega arith) (c .before .before .loop .inv .5) refl, more allWhite (c .before .before .loop .colour) (c .before .before .loop .n) 0 (omega arith) (c .before .before .loop .inv .6) refl)
+loop-again c =
+    let at-entry = c .before .before .before .before .before .before in (
+      omega arith,
+      simp length-set (omega arith),
+      simp length-set (omega arith),
+      simp length-set
+          (omega arith),
+      more (freshLeft (at-entry .args .m) (at-entry .args .r))
+          (c .before .before .loop .left) (c .before .before .loop .n) (c .left-of .result)
+          (omega arith) (c .before .before .loop .inv .4) (c .left-of .ensures),
+      more noEdge
+          (c .before .before .loop .right) (c .before .before .loop .n) 0 (omega arith)
+          (c .before .before .loop .inv .5) refl,
+      more allWhite (c .before .before .loop .colour)
+          (c .before .before .loop .n) 0 (omega arith) (c .before .before .loop .inv .6) refl,
+    )
 
 same-length : tie.Need-same-length Inv-loop μ-loop
 same-length c = omega arith
@@ -58,7 +77,17 @@ same-length-3 c = omega arith
 
 returns : tie.Need-returns Inv-loop μ-loop
 unfolding freshState
-returns c = let a = whole (freshLeft (c .before .before .before .before .before .args .m) (c .before .before .before .before .before .args .r)) (c .before .loop .left) (c .before .before .before .before .before .args .m) (c .before .loop .n) (omega arith) (omega arith) (omega arith) (c .before .loop .inv .4) in let b = whole noEdge (c .before .loop .right) (c .before .before .before .before .before .args .m) (c .before .loop .n) (omega arith) (omega arith) (omega arith) (c .before .loop .inv .5) in let d = whole allWhite (c .before .loop .colour) (c .before .before .before .before .before .args .m) (c .before .loop .n) (omega arith) (omega arith) (omega arith) (c .before .loop .inv .6) in cc
+returns c = let a =
+    whole (freshLeft (c .before .before .before .before .before .args .m)
+    (c .before .before .before .before .before .args .r)) (c .before .loop .left)
+    (c .before .before .before .before .before .args .m) (c .before .loop .n) (omega arith)
+    (omega arith) (omega arith) (c .before .loop .inv .4) in
+    let b = whole noEdge (c .before .loop .right)
+    (c .before .before .before .before .before .args .m) (c .before .loop .n) (omega arith)
+    (omega arith) (omega arith) (c .before .loop .inv .5) in
+    let d = whole allWhite (c .before .loop .colour)
+    (c .before .before .before .before .before .args .m) (c .before .loop .n) (omega arith)
+    (omega arith) (omega arith) (c .before .loop .inv .6) in cc
 
 pub fill-spec : {M : Type 1} → statement M
 fill-spec =

@@ -1,5 +1,6 @@
-use Prim.Native.Nat.{_-_}
-use mathlib.Core.Path.{_∙_}
+-- Where the sizes pass, M and R fit their widths and `fill` can be called; it leaves the
+-- definition's table, and the record and the answer are the definition's.
+use mathlib.Core.Path.{refl, _∙_}
 use borrow.Author.Needs.{needs}
 use Rattle.base.proofs.Tests.{facts, each, not-no, not-yes, pick-yes, pick-no}
 use Rattle.rules.specs.Check.{sizeOk}
@@ -10,12 +11,18 @@ use Rattle.fresh.proofs.fresh.Tie as tie
 size-ok-requires : tie.Need-size-ok-requires
 size-ok-requires c κs = search needs
 
-record-of-requires : tie.Need-record-of-requires
-record-of-requires c κs = search needs
+fresh-requires : tie.Need-fresh-requires
+fresh-requires c κs = search needs
+
+refusal-requires : tie.Need-refusal-requires
+refusal-requires c κs = search needs
 
 returns : tie.Need-returns
 unfolding fresh
-returns c = pick-no _ _ _ _ (not-yes _ (c .before .if1 .taken) ∙ c .before .before .size-ok .ensures) (cc)
+returns c =
+    let at-if1 = c .before .before in
+    rw (c .refusal .ensures, c .before .fresh .ensures)
+    (pick-no _ _ _ _ (not-yes _ (at-if1 .if1 .taken) ∙ at-if1 .before .size-ok .ensures) refl)
 
 cast-nodes : tie.Need-cast-nodes
 unfolding sizeOk
@@ -27,14 +34,23 @@ cast-slots c = omega (facts, each _ (not-no _ (c .if1 .left) ∙ c .before .size
 
 fill-requires : tie.Need-fill-requires
 unfolding sizeOk
-fill-requires c κs = omega (facts, each _ (not-no _ (c .before .before .before .if1 .left) ∙ c .before .before .before .before .size-ok .ensures))
+fill-requires c κs =
+    omega (
+      facts,
+      each _ (not-no _ (c .before .before .before .if1 .left)
+          ∙ c .before .before .before .before .size-ok .ensures),
+    )
 
 last-of-requires : tie.Need-last-of-requires
 unfolding sizeOk
-last-of-requires c κs = omega (facts, each _ (not-no _ (c .before .before .before .before .before .before .before .before .before .before .if1 .left) ∙ c .before .before .before .before .before .before .before .before .before .before .before .size-ok .ensures))
+last-of-requires c κs =
+    let at-if1 = c .before .before .before .before .before .before .before .before .before .before
+    in
+    let at-size-ok = at-if1 .before in
+    omega (facts, each _ (not-no _ (at-if1 .if1 .left) ∙ at-size-ok .size-ok .ensures))
 
-record-of-requires-2 : tie.Need-record-of-requires-2
-record-of-requires-2 c κs = search needs
+fresh-requires-2 : tie.Need-fresh-requires-2
+fresh-requires-2 c κs = search needs
 
 same-length : tie.Need-same-length
 same-length c = search needs
@@ -47,20 +63,26 @@ same-length-3 c = search needs
 
 returns-2 : tie.Need-returns-2
 unfolding fresh
-returns-2 c = pick-yes _ _ _ _ (not-no _ (c .before .before .before .before .before .before .before .before .before .before .before .before .if1 .left) ∙ c .before .before .before .before .before .before .before .before .before .before .before .before .before .size-ok .ensures) (rw (← c .before .before .before .before .before .before .before .before .fill .ensures, ← c .before .last-of .ensures) (cc))
+returns-2 c =
+    let at-fill = c .before .before .before .before .before .before .before .before in
+    let at-if1 = at-fill .before .before .before .before in
+    let at-size-ok = at-if1 .before in
+    pick-yes _ _ _ _ (not-no _ (at-if1 .if1 .left) ∙ at-size-ok .size-ok .ensures)
+    (rw (← at-fill .fill .ensures, ← c .before .last-of .ensures) (cc))
 
 pub fresh-spec : {M : Type 1} → statement M
 fresh-spec =
     tie.close
     (tie.spec
     size-ok-requires
-    record-of-requires
+    fresh-requires
+    refusal-requires
     returns
     cast-nodes
     cast-slots
     fill-requires
     last-of-requires
-    record-of-requires-2
+    fresh-requires-2
     same-length
     same-length-2
     same-length-3

@@ -1,4 +1,4 @@
-use Prim.Native.Nat.{_-_}
+-- The two tests stand in the definition's order; R is at most 64, so that the sums fit.
 use borrow.Author.Needs.{needs}
 use Rattle.base.proofs.Tests.{tests}
 use Rattle.rules.specs.Fresh.{freshLeft}

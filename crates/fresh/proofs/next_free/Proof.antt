@@ -1,4 +1,4 @@
-use Prim.Native.Nat.{_-_}
+-- One test, the definition's; n is at most 4,096, so that n + 1 fits.
 use borrow.Author.Needs.{needs}
 use Rattle.base.proofs.Tests.{tests}
 use Rattle.rules.specs.Fresh.{nextFree}

@@ -1,3 +1,5 @@
+-- Words that are no record's are refused with 2. Else the batch is made over the record that the
+-- words are: its two facts are the face's, and the record's words are written back.
 use mathlib.Core.Path.{_∙_}
 use borrow.Author.Needs.{needs}
 use Rattle.base.proofs.Tests.{not-no, not-yes}
@@ -9,10 +11,14 @@ is-record-requires : tie.Need-is-record-requires
 is-record-requires c κs = search needs
 
 returns : tie.Need-returns
-returns c = (spurned-run _ _ _ _ (not-yes _ (c .if1 .taken) ∙ c .before .is-record .ensures) _, spurned-last _ _ _ _ (not-yes _ (c .if1 .taken) ∙ c .before .is-record .ensures) _, λ h. h)
+returns c =
+    let none = not-yes _ (c .if1 .taken) ∙ c .before .is-record .ensures in
+    (spurned-run _ _ _ _ none _, (spurned-last _ _ _ _ none _, λ h. h))
 
 record-of-requires : tie.Need-record-of-requires
-record-of-requires c κs = (not-no _ (c .before .before .before .if1 .left) ∙ c .before .before .before .before .is-record .ensures)
+record-of-requires c κs =
+    (not-no _ (c .before .before .before .if1 .left)
+    ∙ c .before .before .before .before .is-record .ensures)
 
 collect-many-requires : tie.Need-collect-many-requires
 collect-many-requires c κs = search needs
@@ -45,7 +51,23 @@ same-length-3 : tie.Need-same-length-3
 same-length-3 c = search needs
 
 returns-2 : tie.Need-returns-2
-returns-2 c = (rw (c .before .code .ensures) (faces-run _ _ _ _ _ _ _ _ _ (not-no _ (c .before .before .before .before .before .before .before .before .before .before .before .before .before .before .before .before .if1 .left) ∙ c .before .before .before .before .before .before .before .before .before .before .before .before .before .before .before .before .before .is-record .ensures) (c .before .before .before .before .before .before .before .before .before .before .before .before .record-of .ensures) _ _ _ _ (c .before .before .before .before .before .before .before .before .before .before .before .collect-many .ensures .0) (c .before .before .before .words-of .ensures .0)), faces-last _ _ _ _ _ _ _ _ (not-no _ (c .before .before .before .before .before .before .before .before .before .before .before .before .before .before .before .before .if1 .left) ∙ c .before .before .before .before .before .before .before .before .before .before .before .before .before .before .before .before .before .is-record .ensures) (c .before .before .before .before .before .before .before .before .before .before .before .before .record-of .ensures) (c .before .before .before .before .before .before .before .before .before .before .before .collect-many .ensures .1) (rw (c .before .before .what .ensures, c .before .code .ensures, c .node .ensures)), λ h. c .before .before .before .words-of .ensures .1)
+returns-2 c =
+    let at-collect-many = c .before .before .before .before .before .before .before .before .before
+    .before .before in
+    let at-record-of = at-collect-many .before in
+    let at-if1 = at-record-of .before .before .before .before in
+    let a-record = not-no _ (at-if1 .if1 .left) ∙ at-if1 .before .is-record .ensures in
+    let same = at-record-of .record-of .ensures in
+    let written = c .before .before .before .words-of .ensures in
+    let many = at-collect-many .collect-many .ensures in (
+      rw (c .before .code .ensures) (faces-run _ _ _ _ _ _ _ _ _ a-record same _ _ _ _ (many .0)
+          (written .0)),
+      (
+        faces-last _ _ _ _ _ _ _ _ a-record same (many .1)
+            (rw (c .before .before .what .ensures, c .before .code .ensures, c .node .ensures)),
+        λ h. written .1,
+      ),
+    )
 
 pub jenturik-collect-many-spec : {M : Type 1} → statement M
 jenturik-collect-many-spec =

@@ -1,3 +1,4 @@
+-- What Fresh leaves is shown as it is, and the words are those of the record that it hands back.
 use borrow.Author.Needs.{needs}
 use Rattle.jenturik_c.proofs.Faces.{shows}
 use Rattle.jenturik_c.proofs.jenturik_fresh.Statement.{statement}
@@ -22,7 +23,12 @@ same-length-3 : tie.Need-same-length-3
 same-length-3 c = search needs
 
 returns : tie.Need-returns
-returns c = (shows _ _ _ _ _ _ _ (c .before .before .before .before .before .before .before .before .before .fresh .ensures) (c .before .words-of .ensures .0) (c .tell .ensures), c .before .words-of .ensures .1)
+returns c =
+    let at-fresh = c .before .before .before .before .before .before .before .before .before in (
+      shows _ _ _ _ _ _ _ (at-fresh .fresh .ensures) (c .before .words-of .ensures .0)
+          (c .tell .ensures),
+      c .before .words-of .ensures .1,
+    )
 
 pub jenturik-fresh-spec : {M : Type 1} → statement M
 jenturik-fresh-spec =

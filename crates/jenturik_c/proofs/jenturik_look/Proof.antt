@@ -1,3 +1,5 @@
+-- Words that are no record's are answered by `no_record`. Else Look's contract over the record that
+-- the words are is the face's; it changes nothing, so that the words are the record's still.
 use mathlib.Core.Path.{_∙_}
 use borrow.Author.Needs.{needs}
 use Rattle.base.proofs.Tests.{not-no, not-yes}
@@ -13,7 +15,9 @@ no-record-requires : tie.Need-no-record-requires
 no-record-requires c κs = search needs
 
 returns : tie.Need-returns
-returns c = spurned _ _ _ _ (not-yes _ (c .before .if1 .taken) ∙ c .before .before .is-record .ensures) _ _ (c .no-record .ensures)
+returns c =
+    spurned _ _ _ _ (not-yes _ (c .before .if1 .taken) ∙ c .before .before .is-record .ensures) _ _
+    (c .no-record .ensures)
 
 record-of-requires : tie.Need-record-of-requires
 record-of-requires c κs = (not-no _ (c .if1 .left) ∙ c .before .is-record .ensures)
@@ -25,7 +29,10 @@ tell-requires : tie.Need-tell-requires
 tell-requires c κs = search needs
 
 returns-2 : tie.Need-returns-2
-returns-2 c = looked _ _ _ _ (not-no _ (c .before .before .before .if1 .left) ∙ c .before .before .before .before .is-record .ensures) _ _ _ _ (c .before .before .record-of .ensures) (c .before .look .ensures) (c .tell .ensures)
+returns-2 c =
+    looked _ _ _ _ (not-no _ (c .before .before .before .if1 .left)
+    ∙ c .before .before .before .before .is-record .ensures) _ _ _ _
+    (c .before .before .record-of .ensures) (c .before .look .ensures) (c .tell .ensures)
 
 pub jenturik-look-spec : {M : Type 1} → statement M
 jenturik-look-spec =

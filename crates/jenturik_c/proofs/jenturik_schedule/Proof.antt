@@ -1,3 +1,5 @@
+-- Words that are no record's are refused with 2. Else the schedule is made over the record that the
+-- words are: its contract is the face's, and the record's words are written back.
 use mathlib.Core.Path.{_∙_}
 use borrow.Author.Needs.{needs}
 use Rattle.base.proofs.Tests.{not-no, not-yes}
@@ -9,10 +11,13 @@ is-record-requires : tie.Need-is-record-requires
 is-record-requires c κs = search needs
 
 returns : tie.Need-returns
-returns c = (spurned-run _ _ _ _ (not-yes _ (c .if1 .taken) ∙ c .before .is-record .ensures) _, λ h. h)
+returns c =
+    (spurned-run _ _ _ _ (not-yes _ (c .if1 .taken) ∙ c .before .is-record .ensures) _, λ h. h)
 
 record-of-requires : tie.Need-record-of-requires
-record-of-requires c κs = (not-no _ (c .before .before .before .if1 .left) ∙ c .before .before .before .before .is-record .ensures)
+record-of-requires c κs =
+    (not-no _ (c .before .before .before .if1 .left)
+    ∙ c .before .before .before .before .is-record .ensures)
 
 schedule-of-requires : tie.Need-schedule-of-requires
 schedule-of-requires c κs = search needs
@@ -33,7 +38,17 @@ same-length-3 : tie.Need-same-length-3
 same-length-3 c = search needs
 
 returns-2 : tie.Need-returns-2
-returns-2 c = (faces-run _ _ _ _ _ _ _ _ _ (not-no _ (c .before .before .before .before .before .before .before .before .before .before .before .before .before .before .if1 .left) ∙ c .before .before .before .before .before .before .before .before .before .before .before .before .before .before .before .is-record .ensures) (c .before .before .before .before .before .before .before .before .before .before .record-of .ensures) _ _ _ _ (c .before .before .before .before .before .before .before .before .before .schedule-of .ensures) (c .before .words-of .ensures .0), λ h. c .before .words-of .ensures .1)
+returns-2 c =
+    let at-schedule-of = c .before .before .before .before .before .before .before .before .before
+    in
+    let at-record-of = at-schedule-of .before in
+    let at-if1 = at-record-of .before .before .before .before in
+    let at-is-record = at-if1 .before in (
+      faces-run _ _ _ _ _ _ _ _ _ (not-no _ (at-if1 .if1 .left) ∙ at-is-record .is-record .ensures)
+          (at-record-of .record-of .ensures) _ _ _ _ (at-schedule-of .schedule-of .ensures)
+          (c .before .words-of .ensures .0),
+      λ h. c .before .words-of .ensures .1,
+    )
 
 pub jenturik-schedule-spec : {M : Type 1} → statement M
 jenturik-schedule-spec =

@@ -1,3 +1,5 @@
+-- Where words are left over, the definition asks for what `unreadable` answers; else it is the
+-- schedule that `follow` makes.
 use borrow.Author.Needs.{needs}
 use Rattle.base.proofs.Tests.{pick-yes, pick-no, eq-yes, eq-no}
 use Rattle.calls.specs.Unreadable.{unreadable}
@@ -26,7 +28,10 @@ same-length-3 c = search needs
 
 returns-2 : tie.Need-returns-2
 unfolding scheduleOf unreadable
-returns-2 c = pick-yes _ _ _ _ (eq-yes _ _ (c .before .before .before .before .before .before .before .before .before .before .if1 .left)) (c .before .before .before .before .before .before .follow .ensures)
+returns-2 c =
+    let at-follow = c .before .before .before .before .before .before in
+    let at-if1 = at-follow .before .before .before .before in
+    pick-yes _ _ _ _ (eq-yes _ _ (at-if1 .if1 .left)) (at-follow .follow .ensures)
 
 pub schedule-of-spec : {M : Type 1} → statement M
 schedule-of-spec =

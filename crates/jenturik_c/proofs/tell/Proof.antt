@@ -1,3 +1,4 @@
+-- The three numbers are the answer's, in wider types.
 use borrow.Author.Needs.{needs}
 use Rattle.jenturik_c.proofs.tell.Statement.{statement}
 use Rattle.jenturik_c.proofs.tell.Tie as tie

@@ -1,4 +1,4 @@
-use Prim.Native.Nat.{_-_}
+-- The answer's code and node are the methods' contracts; the record is the one handed over.
 use borrow.Author.Needs.{needs}
 use Rattle.lines.proofs.answered.Statement.{statement}
 use Rattle.lines.proofs.answered.Tie as tie

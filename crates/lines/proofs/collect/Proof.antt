@@ -1,4 +1,5 @@
-use Prim.Native.Nat.{_-_}
+-- A count of 0 is the empty schedule, which judges codes 1 and 2; any other count is what
+-- `collect_some` promises.
 use borrow.Author.Needs.{needs}
 use Rattle.lines.proofs.Collects.{nothing}
 use Rattle.lines.proofs.collect.Statement.{statement}
@@ -17,7 +18,9 @@ same-length-3 : tie.Need-same-length-3
 same-length-3 c = search needs
 
 returns : tie.Need-returns
-returns c = c .before .before .before .before .before .before .collect-some .ensures
+returns c =
+    let at-collect-some = c .before .before .before .before .before .before in
+    at-collect-some .collect-some .ensures
 
 collect-many-requires : tie.Need-collect-many-requires
 collect-many-requires c κs = search needs
@@ -32,7 +35,10 @@ same-length-6 : tie.Need-same-length-6
 same-length-6 c = search needs
 
 returns-2 : tie.Need-returns-2
-returns-2 c = nothing _ _ _ (c .before .before .before .before .before .before .before .before .before .before .before .if1 .left) (c .before .before .before .before .before .before .before .collect-many .ensures)
+returns-2 c =
+    let at-collect-many = c .before .before .before .before .before .before .before in
+    let at-if1 = at-collect-many .before .before .before .before in
+    nothing _ _ _ (at-if1 .if1 .left) (at-collect-many .collect-many .ensures)
 
 pub collect-spec : {M : Type 1} → statement M
 collect-spec =

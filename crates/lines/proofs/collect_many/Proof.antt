@@ -1,3 +1,4 @@
+-- The batch's contract is the schedule of n collector steps; its answer's code is the schedule's.
 use borrow.Author.Needs.{needs}
 use Rattle.lines.proofs.collect_many.Statement.{statement}
 use Rattle.lines.proofs.collect_many.Tie as tie
@@ -18,7 +19,9 @@ same-length-3 : tie.Need-same-length-3
 same-length-3 c = search needs
 
 returns : tie.Need-returns
-returns c = rw (c .code .ensures) (c .before .before .before .before .before .before .before .before .collect-many .ensures .0)
+returns c =
+    let at-collect-many = c .before .before .before .before .before .before .before .before in
+    rw (c .code .ensures) (at-collect-many .collect-many .ensures .0)
 
 pub collect-many-spec : {M : Type 1} → statement M
 collect-many-spec =

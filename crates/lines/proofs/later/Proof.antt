@@ -1,4 +1,4 @@
-use Prim.Native.Nat.{_-_}
+-- What the line says decides, by the definition's cases, and each case is one call's contract.
 use borrow.Author.Needs.{needs}
 use Rattle.lines.specs.Lines.{answered, later}
 use Rattle.lines.proofs.later.Statement.{statement}
@@ -39,7 +39,12 @@ same-length-3 c = search needs
 
 returns : tie.Need-returns
 unfolding later
-returns c = rw (← c .before .before .before .before .before .before .before .before .before .before .before .before .before .before .read .ensures, c .before .before .before .before .before .before .before .before .before .before .before .before .said .given .1, ← c .before .before .before .before .before .before .before .step .ensures) (c .answered .ensures _ _ _)
+returns c =
+    let at-step = c .before .before .before .before .before .before .before in
+    let at-said = at-step .before .before .before .before .before in
+    let at-read = at-said .before .before in
+    rw (← at-read .read .ensures, at-said .said .given .1, ← at-step .step .ensures)
+    (c .answered .ensures _ _ _)
 
 same-length-4 : tie.Need-same-length-4
 same-length-4 c = search needs
@@ -52,7 +57,11 @@ same-length-6 c = search needs
 
 returns-2 : tie.Need-returns-2
 unfolding later
-returns-2 c = rw (← c .before .before .before .before .before .before .before .before .before .before .before .before .before .read .ensures, c .before .before .before .before .before .before .before .before .before .before .before .said2 .given .1) (c .before .before .before .before .before .before .collect .ensures)
+returns-2 c =
+    let at-collect = c .before .before .before .before .before .before in
+    let at-said2 = at-collect .before .before .before .before .before in
+    let at-read = at-said2 .before .before in
+    rw (← at-read .read .ensures, at-said2 .said2 .given .1) (at-collect .collect .ensures)
 
 returns-3 : tie.Need-returns-3
 unfolding later

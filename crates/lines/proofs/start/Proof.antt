@@ -1,13 +1,7 @@
-use Prim.Native.Nat.{_-_}
-use mathlib.Core.Path.{_≡_, ap, _∙_}
-use lib.ListN.{length}
-use lib.Seq.{length-take-le}
-use native.Mathlib.Omega.{arith}
+-- `start` meets its contract: Fresh makes the table in the parts that are lent, and what lies
+-- behind them is as it was.
 use native.Mathlib.Nat.{sub-zero}
 use borrow.Author.Needs.{needs}
-use Rattle.lines.specs.Lines.{answered}
-use Rattle.lines.proofs.Collects.{last}
-use Rattle.lines.proofs.Firsts.{front, back}
 use Rattle.lines.proofs.start.Statement.{statement}
 use Rattle.lines.proofs.start.Tie as tie
 
@@ -54,7 +48,10 @@ same-length-3 : tie.Need-same-length-3
 same-length-3 c = search needs
 
 returns : tie.Need-returns
-returns c = let a : length (c .before .before .before .before .before .before .before .fresh .last .0) ≡ c .before .before .before .before .before .before .before .before .before .before .before .before .before .before .args .m = omega (arith, length-take-le (c .before .before .before .before .before .before .before .before .before .before .before .before .before .before .args .m - 0) (c .before .before .before .before .before .before .before .before .before .before .before .before .before .before .args .left .now) (omega arith)) in let b : length (c .before .before .before .before .before .before .before .fresh .last .1 .0) ≡ c .before .before .before .before .before .before .before .before .before .before .before .before .before .before .args .m = omega (arith, length-take-le (c .before .before .before .before .before .before .before .before .before .before .before .before .before .before .args .m - 0) (c .before .before .before .before .before .before .before .before .before .before .before .before .before .before .args .right .now) (omega arith)) in let d : length (c .before .before .before .before .before .before .before .fresh .last .1 .1 .0) ≡ c .before .before .before .before .before .before .before .before .before .before .before .before .before .before .args .m = omega (arith, length-take-le (c .before .before .before .before .before .before .before .before .before .before .before .before .before .before .args .m - 0) (c .before .before .before .before .before .before .before .before .before .before .before .before .before .before .args .colour .now) (omega arith)) in let e = rw sub-zero at (c .before .before .before .before .before .before .before .fresh .ensures) in (front _ _ _ _ _ _ _ _ _ _ _ a b d (c .answered .ensures _ _ _ ∙ ap answered e), (back (c .before .before .before .before .before .before .before .fresh .last .0) (c .before .before .before .before .before .before .before .before .before .before .before .before .before .before .args .left .now) _ a, back (c .before .before .before .before .before .before .before .fresh .last .1 .0) (c .before .before .before .before .before .before .before .before .before .before .before .before .before .before .args .right .now) _ b, back (c .before .before .before .before .before .before .before .fresh .last .1 .1 .0) (c .before .before .before .before .before .before .before .before .before .before .before .before .before .before .args .colour .now) _ d))
+returns c =
+    let at-fresh = c .before .before .before .before .before .before .before in
+    let e =
+    rw sub-zero at (at-fresh .fresh .ensures) in rw (sub-zero, ← e) (c .answered .ensures _ _ _)
 
 pub start-spec : {M : Type 1} → statement M
 start-spec =

@@ -1,4 +1,4 @@
-use Prim.Native.Nat.{_-_}
+-- The one test, whether a step was done, is the definition's.
 use borrow.Author.Needs.{needs}
 use Rattle.base.proofs.Tests.{tests}
 use Rattle.lines.specs.Lines.{startOf}

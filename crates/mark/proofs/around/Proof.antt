@@ -1,8 +1,9 @@
-use Prim.Native.Nat.{_-_}
+-- `around` meets its contract: below m a number is its own remainder, and below two rounds it is
+-- that less m.
 use mathlib.Core.Path.{sym}
 use native.Mathlib.Omega.{arith}
 use native.Mathlib.Nat.{mod-eq-of-lt}
-use Rattle.skim.proofs.Calms.{round}
+use Rattle.skim.proofs.NoStops.{round}
 use Rattle.mark.proofs.around.Statement.{statement}
 use Rattle.mark.proofs.around.Tie as tie
 

@@ -1,8 +1,17 @@
-use Prim.Native.Nat.{_-_}
+-- The fields that change are stored to, and the phase is set last: what stands in the definition.
 use borrow.Author.Needs.{needs}
-use Rattle.mark.specs.Spots.{standing}
+use Rattle.mark.specs.Marking.{standing}
 use Rattle.mark.proofs.standing.Statement.{statement}
 use Rattle.mark.proofs.standing.Tie as tie
+
+cast-x : tie.Need-cast-x
+cast-x c = search needs
+
+add-x : tie.Need-add-x
+add-x c = search needs
+
+cast-x-2 : tie.Need-cast-x-2
+cast-x-2 c = search needs
 
 cast-t4 : tie.Need-cast-t4
 cast-t4 c = search needs
@@ -10,18 +19,13 @@ cast-t4 c = search needs
 cast-t5 : tie.Need-cast-t5
 cast-t5 c = search needs
 
-cast-t7 : tie.Need-cast-t7
-cast-t7 c = search needs
-
-add-t8 : tie.Need-add-t8
-add-t8 c = search needs
-
-cast-t9 : tie.Need-cast-t9
-cast-t9 c = search needs
+with-phase-requires : tie.Need-with-phase-requires
+with-phase-requires c κs = search needs
 
 returns : tie.Need-returns
 unfolding standing
-returns c = cc
+returns c = search needs
 
 pub standing-spec : {M : Type 1} → statement M
-standing-spec = tie.close (tie.spec cast-t4 cast-t5 cast-t7 add-t8 cast-t9 returns)
+standing-spec =
+    tie.close (tie.spec cast-x add-x cast-x-2 cast-t4 cast-t5 with-phase-requires returns)

@@ -1,4 +1,4 @@
-use Prim.Native.Nat.{_-_}
+-- Each arm is a case of the definition.
 use borrow.Author.Needs.{needs}
 use Rattle.rules.specs.Editor.{owedCode}
 use Rattle.places.proofs.owed_code.Statement.{statement}

@@ -1,4 +1,4 @@
-use Prim.Native.Nat.{_-_}
+-- The two tests stand in the definition's order.
 use borrow.Author.Needs.{needs}
 use Rattle.base.proofs.Tests.{tests}
 use Rattle.rules.specs.Places.{placeCode}

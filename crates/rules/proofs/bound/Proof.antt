@@ -1,4 +1,5 @@
-use Prim.Native.Nat.{_-_}
+-- The sum is the definition's. It fits 32 bits, since the square of at most 4,096 is at most
+-- 2^24.
 use native.Mathlib.Omega.{arith}
 use borrow.Author.Needs.{needs}
 use Rattle.rules.specs.Check.{bound}

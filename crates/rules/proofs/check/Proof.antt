@@ -1,4 +1,5 @@
-use Prim.Native.Nat.{_-_}
+-- The sizes are judged first. Where they pass, M and R are in range, which is what the record's
+-- test asks.
 use mathlib.Core.Path.{_∙_}
 use borrow.Author.Needs.{needs}
 use Rattle.base.proofs.Tests.{tests, facts, each, not-no}
@@ -21,7 +22,8 @@ returns c = search (tests, needs) depth 12
 
 record-ok-requires : tie.Need-record-ok-requires
 unfolding sizeOk
-record-ok-requires c κs = omega (facts, each _ (not-no _ (c .if1 .left) ∙ c .before .size-ok .ensures))
+record-ok-requires c κs =
+    omega (facts, each _ (not-no _ (c .if1 .left) ∙ c .before .size-ok .ensures))
 
 returns-2 : tie.Need-returns-2
 unfolding checkOf

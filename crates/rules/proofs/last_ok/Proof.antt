@@ -1,4 +1,5 @@
-use Prim.Native.Nat.{_-_}
+-- FREE passes at once; any other node by the definition's two tests. R is at most 64, so that R
+-- + 2 fits.
 use borrow.Author.Needs.{needs}
 use Rattle.base.proofs.Tests.{tests}
 use Rattle.rules.specs.Check.{lastOk}

@@ -1,4 +1,4 @@
-use Prim.Native.Nat.{_-_}
+-- The test picks as the definition does; below the most cycles the sum fits 32 bits.
 use borrow.Author.Needs.{needs}
 use Rattle.base.proofs.Tests.{tests}
 use Rattle.rules.specs.Records.{oneMore}

@@ -1,4 +1,4 @@
-use Prim.Native.Nat.{_-_}
+-- Nothing owed passes; a node passes by the definition's two tests.
 use borrow.Author.Needs.{needs}
 use Rattle.base.proofs.Tests.{tests}
 use Rattle.rules.specs.Check.{owedOk}

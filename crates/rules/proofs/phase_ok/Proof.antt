@@ -1,4 +1,5 @@
-use Prim.Native.Nat.{_-_}
+-- In each arm the phase is known, and the definition at it is the arm's test. R is at most 64,
+-- so that R + 1 fits.
 use borrow.Author.Needs.{needs}
 use Rattle.base.proofs.Tests.{tests}
 use Rattle.rules.specs.Check.{phaseOk}

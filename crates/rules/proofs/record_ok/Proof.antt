@@ -1,4 +1,5 @@
-use Prim.Native.Nat.{_-_}
+-- The four tests stand in the definition's order, each known by its function's contract; that
+-- the sizes are in range is what `bound` and the tests of positions ask.
 use borrow.Author.Needs.{needs}
 use Rattle.base.proofs.Tests.{tests}
 use Rattle.rules.specs.Check.{bound, recordOk}

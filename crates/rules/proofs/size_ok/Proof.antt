@@ -1,4 +1,5 @@
-use Prim.Native.Nat.{_-_}
+-- Each test is one of the definition's list: a test that fails is passed by all before it and
+-- decides, and where none fails all are passed.
 use borrow.Author.Needs.{needs}
 use Rattle.base.proofs.Tests.{tests}
 use Rattle.rules.specs.Check.{sizeOk}

@@ -1,3 +1,5 @@
+-- `advance` meets its contract: what `calls::step` made is handed to `after`, and both contracts
+-- are told of it.
 use borrow.Author.Needs.{needs}
 use Rattle.schedule.proofs.advance.Statement.{statement}
 use Rattle.schedule.proofs.advance.Tie as tie
@@ -18,7 +20,9 @@ same-length-3 : tie.Need-same-length-3
 same-length-3 c = search needs
 
 returns : tie.Need-returns
-returns c = (_, (c .before .before .before .before .before .before .before .step .ensures, c .after .ensures))
+returns c =
+    let at-step = c .before .before .before .before .before .before .before in
+    (_, (at-step .step .ensures, c .after .ensures))
 
 pub advance-spec : {M : Type 1} → statement M
 advance-spec =

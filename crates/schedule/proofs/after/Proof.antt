@@ -1,3 +1,4 @@
+-- `after` meets its contract: the answer's code decides, in the definition as in the code.
 use borrow.Author.Needs.{needs}
 use Rattle.base.proofs.Tests.{pick-yes, pick-no, code-yes, code-no}
 use Rattle.schedule.specs.Stands.{after}
@@ -12,7 +13,8 @@ code-requires c κs = search needs
 
 returns : tie.Need-returns
 unfolding after
-returns c = let e = c .before .before .code .ensures in pick-no _ _ _ _ (code-no _ _ _ e (c .if1 .taken)) cc
+returns c = let e =
+    c .before .before .code .ensures in pick-no _ _ _ _ (code-no _ _ _ e (c .if1 .taken)) cc
 
 returns-2 : tie.Need-returns-2
 unfolding after

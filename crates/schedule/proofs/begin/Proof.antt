@@ -1,3 +1,4 @@
+-- `begin` meets its contract: the test of the code is that of `begun`.
 use borrow.Author.Needs.{needs}
 use Rattle.base.proofs.Tests.{pick-yes, pick-no, code-yes, code-no}
 use Rattle.schedule.specs.Stands.{begun}
@@ -9,7 +10,8 @@ check-requires c κs = search needs
 
 returns : tie.Need-returns
 unfolding begun
-returns c = let e = c .before .check .ensures in pick-no _ _ _ _ (code-no _ _ _ e (c .if1 .taken)) cc
+returns c = let e =
+    c .before .check .ensures in pick-no _ _ _ _ (code-no _ _ _ e (c .if1 .taken)) cc
 
 returns-2 : tie.Need-returns-2
 unfolding begun

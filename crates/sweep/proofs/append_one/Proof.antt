@@ -1,4 +1,6 @@
-use Prim.Native.Nat.{_-_}
+-- `append_one` meets its contract: a black node is made white, which is a step of Append that is
+-- not the last. A white one is left to `append_white`; in every other case nothing is done, and s
+-- leads to s in no step.
 use mathlib.Core.Path.{refl}
 use native.Mathlib.Omega.{arith}
 use borrow.Author.Needs.{needs}
@@ -17,28 +19,58 @@ returns : tie.Need-returns
 returns c = stays _ _ _ _ _ (c .before .before .before .before .before .pre .0) _ (omega arith)
 
 slice-read-if2 : tie.Need-slice-read-if2
-slice-read-if2 c = let g = at _ _ _ _ _ (c .before .before .before .before .before .before .pre .0) in omega arith
+slice-read-if2 c =
+    let at-entry = c .before .before .before .before .before .before in
+    let g = at _ _ _ _ _ (at-entry .pre .0) in omega arith
 
 slice-write-colour : tie.Need-slice-write-colour
-slice-write-colour c = let g = at _ _ _ _ _ (c .before .before .before .before .before .before .before .pre .0) in omega arith
+slice-write-colour c =
+    let at-entry = c .before .before .before .before .before .before .before in
+    let g = at _ _ _ _ _ (at-entry .pre .0) in omega arith
 
 add-t13 : tie.Need-add-t13
-add-t13 c = let g = at _ _ _ _ _ (c .before .before .before .before .before .before .before .pre .0) in omega arith
+add-t13 c =
+    let at-entry = c .before .before .before .before .before .before .before in
+    let g = at _ _ _ _ _ (at-entry .pre .0) in omega arith
 
 add-t14 : tie.Need-add-t14
-add-t14 c = let g = at _ _ _ _ _ (c .before .before .before .before .before .before .before .before .pre .0) in omega arith
+add-t14 c =
+    let at-entry = c .before .before .before .before .before .before .before .before in
+    let g = at _ _ _ _ _ (at-entry .pre .0) in omega arith
 
 same-length : tie.Need-same-length
 same-length c = search needs
 
 returns-2 : tie.Need-returns-2
-returns-2 c = let g = at _ _ _ _ _ (c .before .before .before .before .before .before .before .before .pre .0) in (omega arith, (omega arith, whitens _ _ _ _ _ (c .before .before .before .before .before .before .before .before .pre .0) _ (c .before .before .before .before .before .before .before .before .pre .1) (omega arith) refl refl refl (c .before .if2 .taken)))
+returns-2 c =
+    let at-entry = c .before .before .before .before .before .before .before .before in
+    let g =
+    at _ _ _ _ _ (at-entry .pre .0) in (
+      omega arith,
+      (
+        omega arith,
+        whitens _ _ _ _ _ (at-entry .pre .0) _ (at-entry .pre .1)
+            (omega arith) refl refl refl (c .before .if2 .taken),
+      ),
+    )
 
 slice-read-if3 : tie.Need-slice-read-if3
-slice-read-if3 c = let g = at _ _ _ _ _ (c .before .before .before .before .before .before .before .before .pre .0) in omega arith
+slice-read-if3 c =
+    let at-entry = c .before .before .before .before .before .before .before .before in
+    let g = at _ _ _ _ _ (at-entry .pre .0) in omega arith
 
 append-white-requires : tie.Need-append-white-requires
-append-white-requires c κs = let g = at _ _ _ _ _ (c .before .before .before .before .before .before .before .before .before .before .before .before .pre .0) in (c .before .before .before .before .before .before .before .before .before .before .before .before .pre .0, (c .before .before .before .before .before .before .before .before .before .before .before .before .pre .1, (omega arith, c .before .before .before .if3 .taken)))
+append-white-requires c κs =
+    let at-entry = c .before .before .before .before .before .before .before .before .before .before
+    .before .before in
+    let g =
+    at _ _ _ _ _ (at-entry .pre .0) in (
+      at-entry .pre .0,
+      (
+        at-entry .pre .1,
+        (omega arith, c .before .before .before .if3 .taken),
+      ),
+    )
 
 same-length-2 : tie.Need-same-length-2
 same-length-2 c = search needs
@@ -53,7 +85,9 @@ returns-3 : tie.Need-returns-3
 returns-3 c = search (tests, needs) depth 12
 
 returns-4 : tie.Need-returns-4
-returns-4 c = stays _ _ _ _ _ (c .before .before .before .before .before .before .before .before .before .pre .0) _ (omega arith)
+returns-4 c =
+    let at-entry = c .before .before .before .before .before .before .before .before .before in
+    stays _ _ _ _ _ (at-entry .pre .0) _ (omega arith)
 
 pub append-one-spec : {M : Type 1} → statement M
 append-one-spec =

@@ -1,4 +1,5 @@
-use Prim.Native.Nat.{_-_}
+-- `append_white` meets its contract: where the node is no root and not the end of the free list,
+-- the three writes are what the step of Append writes. Where it is one of them, nothing is done.
 use mathlib.Core.Path.{refl}
 use lib.ListN.{length-set}
 use native.Mathlib.Omega.{arith}
@@ -38,7 +39,8 @@ mul-left-2 : tie.Need-mul-left-2
 mul-left-2 c = let g = at _ _ _ _ _ (c .before .before .before .pre .0) in omega arith
 
 slice-write-left-2 : tie.Need-slice-write-left-2
-slice-write-left-2 c = let g = at _ _ _ _ _ (c .before .before .before .pre .0) in simp length-set (omega arith)
+slice-write-left-2 c = let g =
+    at _ _ _ _ _ (c .before .before .before .pre .0) in simp length-set (omega arith)
 
 add-t9 : tie.Need-add-t9
 add-t9 c = search needs
@@ -53,7 +55,17 @@ same-length-2 : tie.Need-same-length-2
 same-length-2 c = search needs
 
 returns-3 : tie.Need-returns-3
-returns-3 c = let g = at _ _ _ _ _ (c .before .before .before .before .pre .0) in (omega arith, (omega arith, appends _ _ _ _ _ (c .before .before .before .before .pre .0) _ (c .before .before .before .before .pre .1 .0) (c .before .before .before .before .pre .1 .1 .0) refl refl refl (c .before .before .before .before .pre .1 .1 .1) (omega arith) (c .before .if2 .left)))
+returns-3 c = let g =
+    at _ _ _ _ _ (c .before .before .before .before .pre .0) in (
+      omega arith,
+      (
+        omega arith,
+        appends _ _ _ _ _ (c .before .before .before .before .pre .0) _
+            (c .before .before .before .before .pre .1 .0)
+            (c .before .before .before .before .pre .1 .1 .0) refl refl refl
+            (c .before .before .before .before .pre .1 .1 .1) (omega arith) (c .before .if2 .left),
+      ),
+    )
 
 pub append-white-spec : {M : Type 1} → statement M
 append-white-spec =

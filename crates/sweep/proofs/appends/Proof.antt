@@ -1,7 +1,8 @@
-use Prim.Native.Nat.{_-_}
+-- `appends` meets its contract: the position that the loop starts from stands for the record
+-- itself, and the record of the position at the end is where its steps lead.
 use native.Mathlib.Omega.{arith}
 use borrow.Author.Needs.{needs}
-use Rattle.sweep.specs.Rows.{swept}
+use Rattle.sweep.specs.Sweeping.{swept}
 use Rattle.sweep.proofs.Sweeps.{at, begins, ends}
 use Rattle.sweep.proofs.appends.Statement.{statement}
 use Rattle.sweep.proofs.appends.Tie as tie
@@ -10,10 +11,14 @@ cast-t10 : tie.Need-cast-t10
 cast-t10 c = search needs
 
 appending-requires : tie.Need-appending-requires
-appending-requires c κs = (begins _ _ _ _ _ (c .before .before .before .before .before .before .before .pre .1 .1) (c .before .before .before .before .before .before .before .pre .0), (c .before .before .before .before .before .before .before .pre .1 .0, omega arith))
+appending-requires c κs =
+    let at-entry = c .before .before .before .before .before .before .before in
+    (begins _ _ _ _ _ (at-entry .pre .1 .1) (at-entry .pre .0), (at-entry .pre .1 .0, omega arith))
 
 swept-requires : tie.Need-swept-requires
-swept-requires c κs = let g = at _ _ _ _ _ (c .before .before .before .before .before .before .appending .ensures .1 .1 .passes) in omega arith
+swept-requires c κs =
+    let at-appending = c .before .before .before .before .before .before in
+    let g = at _ _ _ _ _ (at-appending .appending .ensures .1 .1 .passes) in omega arith
 
 same-length : tie.Need-same-length
 same-length c = search needs
@@ -25,7 +30,13 @@ same-length-3 : tie.Need-same-length-3
 same-length-3 c = search needs
 
 returns : tie.Need-returns
-returns c = (c .before .before .before .before .before .before .before .appending .ensures .0, rw (c .swept .ensures) (ends _ _ _ _ _ _ _ (c .before .before .before .before .before .before .before .before .before .before .before .before .before .before .before .pre .1 .1) (c .before .before .before .before .before .before .before .appending .ensures .1 .1)))
+returns c =
+    let at-appending = c .before .before .before .before .before .before .before in
+    let at-entry = at-appending .before .before .before .before .before .before .before .before in (
+      at-appending .appending .ensures .0,
+      rw (c .swept .ensures)
+          (ends _ _ _ _ _ _ _ (at-entry .pre .1 .1) (at-appending .appending .ensures .1 .1)),
+    )
 
 pub appends-spec : {M : Type 1} → statement M
 appends-spec =

@@ -1,8 +1,14 @@
-use Prim.Native.Nat.{_-_}
+-- The fields that change are stored to, and the phase is set last: what stands in the definition.
 use borrow.Author.Needs.{needs}
-use Rattle.sweep.specs.Rows.{rooted}
+use Rattle.sweep.specs.Sweeping.{rooted}
 use Rattle.sweep.proofs.rooted.Statement.{statement}
 use Rattle.sweep.proofs.rooted.Tie as tie
+
+cast-x : tie.Need-cast-x
+cast-x c = search needs
+
+add-x : tie.Need-add-x
+add-x c = search needs
 
 add-t5 : tie.Need-add-t5
 add-t5 c = search needs
@@ -10,15 +16,12 @@ add-t5 c = search needs
 cast-t6 : tie.Need-cast-t6
 cast-t6 c = search needs
 
-cast-t8 : tie.Need-cast-t8
-cast-t8 c = search needs
-
-add-t9 : tie.Need-add-t9
-add-t9 c = search needs
+with-phase-requires : tie.Need-with-phase-requires
+with-phase-requires c κs = search needs
 
 returns : tie.Need-returns
 unfolding rooted
-returns c = cc
+returns c = search needs
 
 pub rooted-spec : {M : Type 1} → statement M
-rooted-spec = tie.close (tie.spec add-t5 cast-t6 cast-t8 add-t9 returns)
+rooted-spec = tie.close (tie.spec cast-x add-x add-t5 cast-t6 with-phase-requires returns)

@@ -1,9 +1,11 @@
+-- `shading` meets its contract: before each turn d steps of Roots lead from the colours at entry to
+-- those now. A colour of at most 2 is shaded, which is one step more; a bad one ends the loop.
 use Prim.Native.Nat.{_-_, _≤_}
 use mathlib.Core.Path.{_≡_, refl}
 use lib.ListN.{length}
 use native.Mathlib.Omega.{arith}
 use borrow.Author.Needs.{needs}
-use Rattle.sweep.specs.Rows.{Shades}
+use Rattle.sweep.specs.Sweeping.{Shades}
 use Rattle.sweep.proofs.Sweeps.{shades-none, shades-more}
 use Rattle.sweep.proofs.shading.Statement.{statement}
 use Rattle.sweep.proofs.shading.Tie as tie
@@ -46,7 +48,13 @@ loop-less : tie.Need-loop-less Inv-loop μ-loop
 loop-less c = omega arith
 
 loop-again : tie.Need-loop-again Inv-loop μ-loop
-loop-again c = (omega arith, omega arith, rw (c .before .before .shade-node .ensures) (shades-more _ _ _ _ _ (c .before .before .before .before .before .before .before .loop .inv .2) (omega arith) (omega arith)))
+loop-again c =
+    let at-loop = c .before .before .before .before .before .before .before in (
+      omega arith,
+      omega arith,
+      rw (c .before .before .shade-node .ensures)
+          (shades-more _ _ _ _ _ (at-loop .loop .inv .2) (omega arith) (omega arith)),
+    )
 
 same-length-2 : tie.Need-same-length-2 Inv-loop μ-loop
 same-length-2 c = omega arith

@@ -1,24 +1,27 @@
-use Prim.Native.Nat.{_-_}
+-- The fields that change are stored to, and the phase is set last: what stands in the definition.
 use borrow.Author.Needs.{needs}
-use Rattle.sweep.specs.Rows.{swept}
+use Rattle.sweep.specs.Sweeping.{swept}
 use Rattle.sweep.proofs.swept.Statement.{statement}
 use Rattle.sweep.proofs.swept.Tie as tie
+
+cast-x : tie.Need-cast-x
+cast-x c = search needs
+
+add-x : tie.Need-add-x
+add-x c = search needs
+
+cast-x-2 : tie.Need-cast-x-2
+cast-x-2 c = search needs
 
 cast-t4 : tie.Need-cast-t4
 cast-t4 c = search needs
 
-cast-t6 : tie.Need-cast-t6
-cast-t6 c = search needs
-
-cast-t7 : tie.Need-cast-t7
-cast-t7 c = search needs
-
-add-t8 : tie.Need-add-t8
-add-t8 c = search needs
+with-phase-requires : tie.Need-with-phase-requires
+with-phase-requires c κs = search needs
 
 returns : tie.Need-returns
 unfolding swept
-returns c = cc
+returns c = search needs
 
 pub swept-spec : {M : Type 1} → statement M
-swept-spec = tie.close (tie.spec cast-t4 cast-t6 cast-t7 add-t8 returns)
+swept-spec = tie.close (tie.spec cast-x add-x cast-x-2 cast-t4 with-phase-requires returns)

@@ -1,4 +1,4 @@
-use Prim.Native.Nat.{_-_}
+-- The two tests are the definition's two, in its order.
 use borrow.Author.Needs.{needs}
 use Rattle.base.proofs.Tests.{tests}
 use Rattle.rules.specs.Table.{badEdge}

@@ -1,7 +1,6 @@
-use Prim.Native.Nat.{_-_}
+-- The side is 0 or 1, and the entry read is that list's.
 use borrow.Author.Needs.{needs}
-use Rattle.base.proofs.Tests.{tests}
-use Rattle.rules.specs.Table.{edgeOf}
+use Rattle.rules.proofs.Laws.{on-left, on-right}
 use Rattle.table.proofs.edge.Statement.{statement}
 use Rattle.table.proofs.edge.Tie as tie
 
@@ -12,8 +11,7 @@ shared-slice-read-result : tie.Need-shared-slice-read-result
 shared-slice-read-result c = search needs
 
 returns : tie.Need-returns
-unfolding edgeOf
-returns c = search (tests, needs) depth 12
+returns c = search (on-left, needs)
 
 mul-result-2 : tie.Need-mul-result-2
 mul-result-2 c = search needs
@@ -22,8 +20,7 @@ shared-slice-read-result-2 : tie.Need-shared-slice-read-result-2
 shared-slice-read-result-2 c = search needs
 
 returns-2 : tie.Need-returns-2
-unfolding edgeOf
-returns-2 c = search (tests, needs) depth 12
+returns-2 c = search (on-right, needs)
 
 pub edge-spec : {M : Type 1} → statement M
 edge-spec =

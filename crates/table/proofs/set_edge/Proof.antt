@@ -1,7 +1,6 @@
-use Prim.Native.Nat.{_-_}
+-- The side is 0 or 1, and the entry written is that list's; the other lists stay.
 use borrow.Author.Needs.{needs}
-use Rattle.base.proofs.Tests.{tests}
-use Rattle.rules.specs.Table.{withEdge}
+use Rattle.rules.proofs.Laws.{set-left, set-right}
 use Rattle.table.proofs.set_edge.Statement.{statement}
 use Rattle.table.proofs.set_edge.Tie as tie
 
@@ -15,8 +14,7 @@ same-length : tie.Need-same-length
 same-length c = search needs
 
 returns : tie.Need-returns
-unfolding withEdge
-returns c = λ k y. search (tests, needs) depth 12
+returns c = λ k y. search (set-left, needs)
 
 mul-right : tie.Need-mul-right
 mul-right c = search needs
@@ -28,8 +26,7 @@ same-length-2 : tie.Need-same-length-2
 same-length-2 c = search needs
 
 returns-2 : tie.Need-returns-2
-unfolding withEdge
-returns-2 c = λ k y. search (tests, needs) depth 12
+returns-2 c = λ k y. search (set-right, needs)
 
 pub set-edge-spec : {M : Type 1} → statement M
 set-edge-spec =

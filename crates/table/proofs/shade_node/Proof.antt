@@ -1,4 +1,4 @@
-use Prim.Native.Nat.{_-_}
+-- Only a white colour is written, and then gray, as the definition has it.
 use borrow.Author.Needs.{needs}
 use Rattle.base.proofs.Tests.{tests}
 use Rattle.rules.specs.Table.{shadeIn}

@@ -1,4 +1,4 @@
-use Prim.Native.Nat.{_-_}
+-- The tests are the definition's; R is at most 64, so that R + 1 fits.
 use borrow.Author.Needs.{needs}
 use Rattle.base.proofs.Tests.{tests}
 use Rattle.rules.specs.Editor.{badFree}

@@ -1,4 +1,5 @@
-use Prim.Native.Nat.{_-_}
+-- The three edges and the colour are written in the definition's order; each write is known by
+-- its contract, for any record beside the table.
 use borrow.Author.Needs.{needs}
 use Rattle.rules.specs.Editor.{relink}
 use Rattle.take.proofs.relink.Statement.{statement}
@@ -27,7 +28,20 @@ same-length-3 c = search needs
 
 returns : tie.Need-returns
 unfolding relink
-returns c = λ y. rw (← c .before .before .before .before .before .before .before .before .before .before .before .before .before .before .before .before .before .before .before .before .before .before .set-edge .ensures (c .before .before .before .before .before .before .before .before .before .before .before .before .before .before .before .before .before .before .before .before .before .before .before .before .before .before .before .before .args .colour .now) y, ← c .before .before .before .before .before .before .before .before .before .before .before .before .before .before .before .set-edge2 .ensures (c .before .before .before .before .before .before .before .before .before .before .before .before .before .before .before .before .before .before .before .before .before .before .before .before .before .before .before .before .args .colour .now) y, ← c .before .before .before .before .before .before .before .before .set-edge3 .ensures (c .before .before .before .before .before .before .before .before .before .before .before .before .before .before .before .before .before .before .before .before .before .before .before .before .before .before .before .before .args .colour .now) y, ← c .before .before .shade-node .ensures)
+returns c =
+    let at-set-edge3 = c .before .before .before .before .before .before .before .before in
+    let at-set-edge2 = at-set-edge3 .before .before .before .before .before .before .before in
+    let at-set-edge = at-set-edge2 .before .before .before .before .before .before .before in
+    let at-entry = at-set-edge .before .before .before .before .before .before in
+    λ y. rw (
+      ← at-set-edge .set-edge .ensures (at-entry .args .colour .now) y,
+      ←
+          at-set-edge2 .set-edge2 .ensures (at-entry .args .colour .now) y,
+      ←
+          at-set-edge3 .set-edge3 .ensures (at-entry .args .colour .now) y,
+      ←
+          c .before .before .shade-node .ensures,
+    )
 
 pub relink-spec : {M : Type 1} → statement M
 relink-spec =

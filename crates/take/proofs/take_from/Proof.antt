@@ -1,22 +1,35 @@
-use Prim.Native.Nat.{_-_}
+-- `depart` says where the source is, or why there is none: the two answers are the two cases of the
+-- definition. A source that is found lies in the table, which is what `take_first` asks.
 use native.Mathlib.Omega.{arith}
 use borrow.Author.Needs.{needs}
-use Rattle.rules.proofs.Walks.{at-below}
-use Rattle.places.proofs.Arrivals.{departs, absent, halts}
+use Rattle.places.proofs.Arrivals.{departs, absent, found-below}
 use Rattle.take.proofs.take_from.Statement.{statement}
 use Rattle.take.proofs.take_from.Tie as tie
 
-walk-requires : tie.Need-walk-requires
-walk-requires c κs = search needs
+depart-requires : tie.Need-depart-requires
+depart-requires c κs = search needs
 
 enum-known-from : tie.Need-enum-known-from
 enum-known-from c = search needs
 
-enum-told : tie.Need-enum-told
-enum-told c = search needs
+edge-requires : tie.Need-edge-requires
+edge-requires c κs = search needs
 
-stood-requires : tie.Need-stood-requires
-stood-requires c κs = search needs
+take-first-requires : tie.Need-take-first-requires
+take-first-requires c κs =
+    let at-from = c .before .before .before .before .before .before .before in
+    let at-depart = at-from .before .before in
+    let at-entry = at-depart .before .before .before .before .before .before in
+    let n =
+    found-below _ _ _ _ _ _ _ _ (at-depart .depart .ensures) (at-from .from .given .1)
+    (omega (arith, at-entry .pre)) in
+    omega (arith, at-entry .pre)
+
+enum-known-from-2 : tie.Need-enum-known-from-2
+enum-known-from-2 c = search needs
+
+refusal-requires : tie.Need-refusal-requires
+refusal-requires c κs = search needs
 
 same-length : tie.Need-same-length
 same-length c = search needs
@@ -24,53 +37,43 @@ same-length c = search needs
 same-length-2 : tie.Need-same-length-2
 same-length-2 c = search needs
 
-returns : tie.Need-returns
-returns c = halts _ _ _ _ _ _ (c .before .before .before .walk .ensures) (c .before .enum-told .given .1) (c .stood .ensures)
-
 same-length-3 : tie.Need-same-length-3
 same-length-3 c = search needs
+
+returns : tie.Need-returns
+returns c =
+    let at-take-first = c .before .before .before .before .before .before in
+    let at-edge = at-take-first .before .before .before .before in
+    let at-from = at-edge .before .before .before .before in
+    departs _ _ _ _ _ _ (at-from .before .before .depart .ensures) (at-from .from .given .1)
+    (rw (← at-edge .edge .ensures) (at-take-first .take-first .ensures))
 
 same-length-4 : tie.Need-same-length-4
 same-length-4 c = search needs
 
-returns-2 : tie.Need-returns-2
-returns-2 c = absent _ _ _ _ _ (c .before .before .before .before .walk .ensures) (c .before .before .from .given .1) (c .if1 .taken)
-
-edge-requires : tie.Need-edge-requires
-edge-requires c κs = search needs
-
-take-first-requires : tie.Need-take-first-requires
-take-first-requires c κs = let n = at-below _ _ _ _ _ _ _ (c .before .before .before .before .before .before .before .before .before .before .walk .ensures) (c .before .before .before .before .before .before .before .before .from .given .1) (omega (arith, c .before .before .before .before .before .before .before .before .before .before .before .before .before .before .before .before .pre)) in omega (arith, c .before .before .before .before .before .before .before .before .before .before .before .before .before .before .before .before .pre)
-
 same-length-5 : tie.Need-same-length-5
 same-length-5 c = search needs
 
-same-length-6 : tie.Need-same-length-6
-same-length-6 c = search needs
-
-same-length-7 : tie.Need-same-length-7
-same-length-7 c = search needs
-
-returns-3 : tie.Need-returns-3
-returns-3 c = departs _ _ _ _ _ _ (c .before .before .before .before .before .before .before .before .before .before .before .before .before .before .before .before .before .walk .ensures) (c .before .before .before .before .before .before .before .before .before .before .before .before .before .before .before .from .given .1) (c .before .before .before .before .before .before .before .before .before .before .before .before .before .if1 .left) (rw (← c .before .before .before .before .before .before .before .before .before .before .edge .ensures) (c .before .before .before .before .before .before .take-first .ensures))
+returns-2 : tie.Need-returns-2
+returns-2 c =
+    let at-from = c .before .before in
+    rw (c .refusal .ensures)
+    (absent _ _ _ _ _ _ (at-from .before .before .depart .ensures) (at-from .from2 .given .1))
 
 pub take-from-spec : {M : Type 1} → statement M
 take-from-spec =
     tie.close
     (tie.spec
-    walk-requires
+    depart-requires
     enum-known-from
-    enum-told
-    stood-requires
-    same-length
-    same-length-2
-    returns
-    same-length-3
-    same-length-4
-    returns-2
     edge-requires
     take-first-requires
+    enum-known-from-2
+    refusal-requires
+    same-length
+    same-length-2
+    same-length-3
+    returns
+    same-length-4
     same-length-5
-    same-length-6
-    same-length-7
-    returns-3)
+    returns-2)

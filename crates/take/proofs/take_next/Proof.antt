@@ -1,4 +1,5 @@
-use Prim.Native.Nat.{_-_}
+-- The tests stand in the definition's order. An edge of the free list that is not bad leads into
+-- the table, so both colours can be read and both nodes shaded.
 use mathlib.Core.Path.{refl, sym, _∙_}
 use native.Mathlib.Omega.{arith}
 use borrow.Author.Needs.{needs}
@@ -12,16 +13,28 @@ use Rattle.take.proofs.take_next.Tie as tie
 bad-free-requires : tie.Need-bad-free-requires
 bad-free-requires c κs = search needs
 
+refusal-requires : tie.Need-refusal-requires
+refusal-requires c κs = search needs
+
 returns : tie.Need-returns
 unfolding takeNext
-returns c = pick-yes _ _ _ _ (sym (c .if1 .taken) ∙ c .before .bad-free .ensures) refl
+returns c =
+    rw (c .refusal .ensures)
+    (pick-yes _ _ _ _ (sym (c .before .if1 .taken) ∙ c .before .before .bad-free .ensures) refl)
 
 slice-read-if2 : tie.Need-slice-read-if2
 slice-read-if2 c = omega arith
 
+refusal-requires-2 : tie.Need-refusal-requires-2
+refusal-requires-2 c κs = search needs
+
 returns-2 : tie.Need-returns-2
 unfolding takeNext
-returns-2 c = pick-no _ _ _ _ (sym (c .before .before .if1 .left) ∙ c .before .before .before .bad-free .ensures) (search (tests, needs) depth 12)
+returns-2 c =
+    let at-if1 = c .before .before .before in
+    rw (c .refusal2 .ensures)
+    (pick-no _ _ _ _ (sym (at-if1 .if1 .left) ∙ at-if1 .before .bad-free .ensures)
+    (search (tests, needs) depth 12))
 
 relink-requires : tie.Need-relink-requires
 relink-requires c κs = omega arith
@@ -40,20 +53,45 @@ same-length-3 c = search needs
 
 returns-3 : tie.Need-returns-3
 unfolding takeNext
-returns-3 c = pick-no _ _ _ _ (sym (c .before .before .before .before .before .before .before .before .before .before .before .before .before .before .if1 .left) ∙ c .before .before .before .before .before .before .before .before .before .before .before .before .before .before .before .bad-free .ensures) (pick-no _ _ _ _ (lt-no _ _ (c .before .before .before .before .before .before .before .before .before .before .before .before .if2 .left)) (pick-yes _ _ _ _ (eq-yes _ _ (c .before .before .before .before .before .before .before .before .before .before .before .if3 .taken)) (leaves _ (c .before .before .before .before .before .before .before .before .before .before .before .before .before .before .before .before .before .before .before .args .x) _ _ _ _ _ _ (c .before .before .before .before .before .before .before .relink .ensures (c .before .before .before .before .before .before .before .before .before .before .before .before .before .before .before .before .before .before .before .args .x)) (c .with-last .ensures))))
+returns-3 c =
+    let at-relink = c .before .before .before .before .before .before .before in
+    let at-if3 = at-relink .before .before .before .before in
+    let at-if2 = at-if3 .before in
+    let at-if1 = at-if2 .before .before in
+    let at-bad-free = at-if1 .before in
+    let at-entry = at-bad-free .before .before .before .before in
+    pick-no _ _ _ _ (sym (at-if1 .if1 .left) ∙ at-bad-free .bad-free .ensures)
+    (pick-no _ _ _ _ (lt-no _ _ (at-if2 .if2 .left))
+    (pick-yes _ _ _ _ (eq-yes _ _ (at-if3 .if3 .taken))
+    (leaves _ (at-entry .args .x) _ _ _ _ _ _ (at-relink .relink .ensures (at-entry .args .x))
+    (c .with-last .ensures))))
 
 slice-read-if4 : tie.Need-slice-read-if4
-slice-read-if4 c = let h = fine-free _ _ _ (sym (c .before .before .before .before .if1 .left) ∙ c .before .before .before .before .before .bad-free .ensures) in omega arith
+slice-read-if4 c = let h =
+    fine-free _ _ _ (sym (c .before .before .before .before .if1 .left)
+    ∙ c .before .before .before .before .before .bad-free .ensures) in omega arith
+
+refusal-requires-3 : tie.Need-refusal-requires-3
+refusal-requires-3 c κs = search needs
 
 returns-4 : tie.Need-returns-4
 unfolding takeNext
-returns-4 c = pick-no _ _ _ _ (sym (c .before .before .before .before .before .if1 .left) ∙ c .before .before .before .before .before .before .bad-free .ensures) (search (tests, needs) depth 12)
+returns-4 c =
+    let at-if1 = c .before .before .before .before .before .before in
+    rw (c .refusal3 .ensures)
+    (pick-no _ _ _ _ (sym (at-if1 .if1 .left) ∙ at-if1 .before .bad-free .ensures)
+    (search (tests, needs) depth 12))
 
 relink-requires-2 : tie.Need-relink-requires-2
 relink-requires-2 c κs = omega arith
 
 shade-node-requires : tie.Need-shade-node-requires
-shade-node-requires c κs = let h = fine-free _ _ _ (sym (c .before .before .before .before .before .before .before .before .before .before .before .before .before .before .before .before .if1 .left) ∙ c .before .before .before .before .before .before .before .before .before .before .before .before .before .before .before .before .before .bad-free .ensures) in omega arith
+shade-node-requires c κs =
+    let at-if1 = c .before .before .before .before .before .before .before .before .before .before
+    .before .before .before .before .before .before in
+    let at-bad-free = at-if1 .before in
+    let h =
+    fine-free _ _ _ (sym (at-if1 .if1 .left) ∙ at-bad-free .bad-free .ensures) in omega arith
 
 same-length-4 : tie.Need-same-length-4
 same-length-4 c = search needs
@@ -66,15 +104,32 @@ same-length-6 c = search needs
 
 returns-5 : tie.Need-returns-5
 unfolding takeNext
-returns-5 c = pick-no _ _ _ _ (sym (c .before .before .before .before .before .before .before .before .before .before .before .before .before .before .before .before .before .before .before .if1 .left) ∙ c .before .before .before .before .before .before .before .before .before .before .before .before .before .before .before .before .before .before .before .before .bad-free .ensures) (pick-no _ _ _ _ (lt-no _ _ (c .before .before .before .before .before .before .before .before .before .before .before .before .before .before .before .before .before .if2 .left)) (pick-no _ _ _ _ (eq-no _ _ (c .before .before .before .before .before .before .before .before .before .before .before .before .before .before .before .before .if3 .left)) (pick-no _ _ _ _ (lt-no _ _ (c .before .before .before .before .before .before .before .before .before .before .before .before .before .before .if4 .left)) (leaves-shaded _ (c .before .before .before .before .before .before .before .before .before .before .before .before .before .before .before .before .before .before .before .before .before .before .before .before .args .x) _ _ _ _ _ _ _ (c .before .before .before .before .before .before .before .before .before .before .relink2 .ensures (c .before .before .before .before .before .before .before .before .before .before .before .before .before .before .before .before .before .before .before .before .before .before .before .before .args .x)) (c .before .before .shade-node .ensures)))))
+returns-5 c =
+    let at-relink2 = c .before .before .before .before .before .before .before .before .before
+    .before in
+    let at-if4 = at-relink2 .before .before .before .before in
+    let at-if3 = at-if4 .before .before in
+    let at-if2 = at-if3 .before in
+    let at-if1 = at-if2 .before .before in
+    let at-bad-free = at-if1 .before in
+    let at-entry = at-bad-free .before .before .before .before in
+    pick-no _ _ _ _ (sym (at-if1 .if1 .left) ∙ at-bad-free .bad-free .ensures)
+    (pick-no _ _ _ _ (lt-no _ _ (at-if2 .if2 .left))
+    (pick-no _ _ _ _ (eq-no _ _ (at-if3 .if3 .left))
+    (pick-no _ _ _ _ (lt-no _ _ (at-if4 .if4 .left))
+    (leaves-shaded _ (at-entry .args .x) _ _ _ _ _ _ _
+    (at-relink2 .relink2 .ensures (at-entry .args .x))
+    (c .before .before .shade-node .ensures)))))
 
 pub take-next-spec : {M : Type 1} → statement M
 take-next-spec =
     tie.close
     (tie.spec
     bad-free-requires
+    refusal-requires
     returns
     slice-read-if2
+    refusal-requires-2
     returns-2
     relink-requires
     with-last-requires
@@ -83,6 +138,7 @@ take-next-spec =
     same-length-3
     returns-3
     slice-read-if4
+    refusal-requires-3
     returns-4
     relink-requires-2
     shade-node-requires

@@ -1,3 +1,5 @@
+-- Each turn compares one byte of the word, so what is left of the word at the next position says
+-- the same as the whole at the first; a byte that differs loses it.
 use Prim.Native.Nat.{_-_}
 use mathlib.Core.Path.{_≡_, refl, sym, _∙_}
 use lib.ListN.{length, drop}
@@ -28,10 +30,23 @@ cast-if1 : tie.Need-cast-if1 Inv-loop μ-loop
 cast-if1 c = omega (arith, c .shared-slice-known3 .given (c .before .before .before .loop .k))
 
 returns : tie.Need-returns Inv-loop μ-loop
-returns c = rw (c .before .before .before .before .loop .inv, word-turn _ _ _ _ (c .before .before .before .loop-test .taken), ← c .before .before .byte-at .ensures) (pick-no _ _ _ _ (eq-no _ _ (c .if1 .taken)) refl)
+returns c =
+    rw (
+      c .before .before .before .before .loop .inv,
+      word-turn _ _ _ _
+          (c .before .before .before .loop-test .taken),
+      ← c .before .before .byte-at .ensures,
+    )
+    (pick-no _ _ _ _ (eq-no _ _ (c .if1 .taken)) refl)
 
 add-at : tie.Need-add-at Inv-loop μ-loop
-add-at c = let h = inside _ _ _ (c .before .before .byte-at .ensures) (omega (arith, c .before .shared-slice-known3 .given (c .before .before .before .before .loop .k))) in omega arith
+add-at c = let h =
+    inside _ _ _ (c .before .before .byte-at .ensures)
+    (omega (
+      arith,
+      c .before .shared-slice-known3 .given
+          (c .before .before .before .before .loop .k),
+    )) in omega arith
 
 add-k : tie.Need-add-k Inv-loop μ-loop
 add-k c = omega arith
@@ -40,7 +55,14 @@ loop-less : tie.Need-loop-less Inv-loop μ-loop
 loop-less c = omega arith
 
 loop-again : tie.Need-loop-again Inv-loop μ-loop
-loop-again c = c .before .before .before .before .loop .inv ∙ sym (rw (word-turn _ _ _ _ (c .before .before .before .loop-test .taken), ← c .before .before .byte-at .ensures) (pick-yes _ _ _ _ (eq-yes _ _ (c .if1 .left)) refl))
+loop-again c =
+    c .before .before .before .before .loop .inv
+    ∙ sym
+    (rw (
+      word-turn _ _ _ _ (c .before .before .before .loop-test .taken),
+      ←
+          c .before .before .byte-at .ensures,
+    ) (pick-yes _ _ _ _ (eq-yes _ _ (c .if1 .left)) refl))
 
 returns-2 : tie.Need-returns-2 Inv-loop μ-loop
 returns-2 c = rw (c .before .loop .inv) (word-done _ _ _ _ (c .loop-test .left))

@@ -1,4 +1,5 @@
-use Prim.Native.Nat.{_-_}
+-- The position is tested against the line's length: inside it the byte is the list's, and past it
+-- the definition answers 256 as the code does.
 use native.Mathlib.Omega.{arith}
 use borrow.Author.Needs.{needs}
 use Rattle.text.proofs.Lines.{there, past}

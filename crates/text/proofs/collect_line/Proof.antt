@@ -1,4 +1,4 @@
-use Prim.Native.Nat.{_-_}
+-- The form is a word and a number behind it, as in the definition.
 use borrow.Author.Needs.{needs}
 use Rattle.text.specs.Grammar.{after, collectLine}
 use Rattle.text.proofs.collect_line.Statement.{statement}

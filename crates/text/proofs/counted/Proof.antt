@@ -1,4 +1,4 @@
-use Prim.Native.Nat.{_-_}
+-- The one test, whether the count is too large, is the definition's.
 use borrow.Author.Needs.{needs}
 use Rattle.base.proofs.Tests.{tests}
 use Rattle.text.specs.Grammar.{counted}

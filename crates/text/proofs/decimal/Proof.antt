@@ -1,4 +1,4 @@
-use Prim.Native.Nat.{_-_}
+-- The digits are put from the highest on, each by its contract, the last one always.
 use borrow.Author.Needs.{needs}
 use Rattle.text.specs.Answers.{decimal, put, putAll}
 use Rattle.text.proofs.Outputs.{put-append}
@@ -31,7 +31,23 @@ same-length c = search needs
 
 returns : tie.Need-returns
 unfolding decimal putAll
-returns c = rw (put-append, put-append, put-append, put-append, ← c .before .before .before .before .before .before .before .before .before .before .before .before .before .before .before .before .before .before .digit .ensures, ← c .before .before .before .before .before .before .before .before .before .before .before .before .before .before .digit2 .ensures, ← c .before .before .before .before .before .before .before .before .before .before .digit3 .ensures, ← c .before .before .before .before .before .before .digit4 .ensures) (c .before .before .put .ensures)
+returns c =
+    let at-digit4 = c .before .before .before .before .before .before in
+    let at-digit3 = at-digit4 .before .before .before .before in
+    let at-digit2 = at-digit3 .before .before .before .before in
+    let at-digit = at-digit2 .before .before .before .before in
+    rw (
+      put-append,
+      put-append,
+      put-append,
+      put-append,
+      ← at-digit .digit .ensures,
+      ←
+          at-digit2 .digit2 .ensures,
+      ← at-digit3 .digit3 .ensures,
+      ← at-digit4 .digit4 .ensures,
+    )
+    (c .before .before .put .ensures)
 
 pub decimal-spec : {M : Type 1} → statement M
 decimal-spec =

@@ -1,4 +1,4 @@
-use Prim.Native.Nat.{_-_}
+-- A digit is put unless it is a leading zero, by the definition's test.
 use borrow.Author.Needs.{needs}
 use Rattle.base.specs.Choice.{pick}
 use Rattle.text.specs.Answers.{digitOf, put, putAll}
@@ -28,7 +28,8 @@ same-length c = search needs
 
 returns-2 : tie.Need-returns-2
 unfolding digitOf pick putAll
-returns-2 c = rw (le-leb _ _ (c .before .before .before .before .if1 .left)) (c .before .before .put .ensures)
+returns-2 c =
+    rw (le-leb _ _ (c .before .before .before .before .if1 .left)) (c .before .before .put .ensures)
 
 pub digit-spec : {M : Type 1} → statement M
 digit-spec =

@@ -1,3 +1,5 @@
+-- Each turn reads one digit as the definition does, with one fewer to come; the number stays below
+-- a power of ten, so it fits.
 use Prim.Native.Nat.{_-_, _≤_, _<_, _^_}
 use mathlib.Core.Path.{_≡_, refl, sym, _∙_}
 use native.Mathlib.Omega.{arith}
@@ -24,22 +26,37 @@ is-digit-requires : tie.Need-is-digit-requires Inv-loop μ-loop
 is-digit-requires c κs = omega arith
 
 returns : tie.Need-returns Inv-loop μ-loop
-returns c = rw (c .before .before .before .before .loop .inv .2, digits-turn _ _ _ _ (c .before .before .before .loop-test .taken), ← c .before .before .byte-at .ensures) (pick-no _ _ _ _ (not-yes _ (c .if1 .taken) ∙ c .before .is-digit .ensures) refl)
+returns c =
+    rw (
+      c .before .before .before .before .loop .inv .2,
+      digits-turn _ _ _ _
+          (c .before .before .before .loop-test .taken),
+      ← c .before .before .byte-at .ensures,
+    )
+    (pick-no _ _ _ _ (not-yes _ (c .if1 .taken) ∙ c .before .is-digit .ensures) refl)
 
 mul-n : tie.Need-mul-n Inv-loop μ-loop
-mul-n c = let s = small _ _ (c .before .before .before .loop-test .taken) (c .before .before .before .before .loop .inv .1) in omega arith
+mul-n c = let s =
+    small _ _ (c .before .before .before .loop-test .taken)
+    (c .before .before .before .before .loop .inv .1) in omega arith
 
 sub-n : tie.Need-sub-n Inv-loop μ-loop
 sub-n c = let d = digit-is _ (not-no _ (c .if1 .left) ∙ c .before .is-digit .ensures) in omega arith
 
 cast-n : tie.Need-cast-n Inv-loop μ-loop
-cast-n c = let d = digit-is _ (not-no _ (c .if1 .left) ∙ c .before .is-digit .ensures) in omega arith
+cast-n c = let d =
+    digit-is _ (not-no _ (c .if1 .left) ∙ c .before .is-digit .ensures) in omega arith
 
 add-n : tie.Need-add-n Inv-loop μ-loop
-add-n c = let d = digit-is _ (not-no _ (c .if1 .left) ∙ c .before .is-digit .ensures) in let s = small _ _ (c .before .before .before .loop-test .taken) (c .before .before .before .before .loop .inv .1) in omega arith
+add-n c = let d =
+    digit-is _ (not-no _ (c .if1 .left) ∙ c .before .is-digit .ensures) in
+    let s = small _ _ (c .before .before .before .loop-test .taken)
+    (c .before .before .before .before .loop .inv .1) in omega arith
 
 add-at : tie.Need-add-at Inv-loop μ-loop
-add-at c = let d = digit-is _ (not-no _ (c .if1 .left) ∙ c .before .is-digit .ensures) in let h = inside _ _ _ (c .before .before .byte-at .ensures) (omega arith) in omega arith
+add-at c = let d =
+    digit-is _ (not-no _ (c .if1 .left) ∙ c .before .is-digit .ensures) in
+    let h = inside _ _ _ (c .before .before .byte-at .ensures) (omega arith) in omega arith
 
 sub-more : tie.Need-sub-more Inv-loop μ-loop
 sub-more c = omega arith
@@ -48,7 +65,20 @@ loop-less : tie.Need-loop-less Inv-loop μ-loop
 loop-less c = omega arith
 
 loop-again : tie.Need-loop-again Inv-loop μ-loop
-loop-again c = let d = digit-is _ (not-no _ (c .if1 .left) ∙ c .before .is-digit .ensures) in (omega arith, longer _ _ _ (c .before .before .before .loop-test .taken) (omega arith) (c .before .before .before .before .loop .inv .1) (omega arith), c .before .before .before .before .loop .inv .2 ∙ sym (rw (digits-turn _ _ _ _ (c .before .before .before .loop-test .taken), ← c .before .before .byte-at .ensures) (pick-yes _ _ _ _ (not-no _ (c .if1 .left) ∙ c .before .is-digit .ensures) refl)))
+loop-again c = let d =
+    digit-is _ (not-no _ (c .if1 .left) ∙ c .before .is-digit .ensures) in (
+      omega arith,
+      longer _ _ _ (c .before .before .before .loop-test .taken) (omega arith)
+          (c .before .before .before .before .loop .inv .1) (omega arith),
+      c .before .before .before .before .loop .inv .2
+          ∙ sym
+          (rw (
+            digits-turn _ _ _ _ (c .before .before .before .loop-test .taken),
+            ←
+                c .before .before .byte-at .ensures,
+          )
+          (pick-yes _ _ _ _ (not-no _ (c .if1 .left) ∙ c .before .is-digit .ensures) refl)),
+    )
 
 returns-2 : tie.Need-returns-2 Inv-loop μ-loop
 returns-2 c = rw (c .before .loop .inv .2) (digits-done _ _ _ _ (c .loop-test .left))

@@ -1,4 +1,4 @@
-use Prim.Native.Nat.{_-_}
+-- The form is two words, each with its number behind it, as in the definition.
 use borrow.Author.Needs.{needs}
 use Rattle.text.specs.Grammar.{after, firstLine}
 use Rattle.text.proofs.first_line.Statement.{statement}
@@ -24,7 +24,15 @@ number-at-requires-2 c κs = search needs
 
 returns : tie.Need-returns
 unfolding firstLine
-returns c = rw (← c .before .before .before .before .after .ensures, ← c .before .before .before .number-at .ensures, ← c .before .after2 .ensures, ← c .number-at2 .ensures)
+returns c =
+    rw (
+      ← c .before .before .before .before .after .ensures,
+      ←
+          c .before .before .before .number-at .ensures,
+      ← c .before .after2 .ensures,
+      ←
+          c .number-at2 .ensures,
+    )
 
 pub first-line-spec : {M : Type 1} → statement M
 first-line-spec =

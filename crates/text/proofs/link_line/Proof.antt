@@ -1,4 +1,5 @@
-use Prim.Native.Nat.{_-_}
+-- The form is a straight line of pieces, in code and in definition; so it is the pieces' contracts
+-- in a row.
 use borrow.Author.Needs.{needs}
 use Rattle.text.specs.Grammar.{after, linkLine}
 use Rattle.text.proofs.link_line.Statement.{statement}
@@ -39,7 +40,20 @@ place-at-requires-2 c κs = search needs
 
 returns : tie.Need-returns
 unfolding linkLine
-returns c = rw (← c .before .before .before .before .before .before .before .before .before .after .ensures, ← c .before .before .before .before .before .before .before .place-at .ensures, ← c .before .before .before .before .before .after2 .ensures, ← c .before .before .before .before .side-at .ensures, ← c .before .before .after3 .ensures, ← c .place-at2 .ensures)
+returns c =
+    let at-place-at = c .before .before .before .before .before .before .before in
+    let at-after = at-place-at .before .before in
+    rw (
+      ← at-after .after .ensures,
+      ← at-place-at .place-at .ensures,
+      ←
+          c .before .before .before .before .before .after2 .ensures,
+      ←
+          c .before .before .before .before .side-at .ensures,
+      ← c .before .before .after3 .ensures,
+      ←
+          c .place-at2 .ensures,
+    )
 
 pub link-line-spec : {M : Type 1} → statement M
 link-line-spec =

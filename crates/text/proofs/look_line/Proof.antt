@@ -1,4 +1,5 @@
-use Prim.Native.Nat.{_-_}
+-- The form is a straight line of pieces, in code and in definition; so it is the pieces' contracts
+-- in a row.
 use borrow.Author.Needs.{needs}
 use Rattle.text.specs.Grammar.{after, lookLine}
 use Rattle.text.proofs.look_line.Statement.{statement}

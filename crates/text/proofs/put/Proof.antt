@@ -1,4 +1,4 @@
-use Prim.Native.Nat.{_-_}
+-- There is room or there is not; with room the byte is stored where the definition has it.
 use borrow.Author.Needs.{needs}
 use Rattle.base.proofs.Tests.{tests}
 use Rattle.text.specs.Answers.{put}

@@ -1,3 +1,5 @@
+-- Each turn puts one byte, so the bytes that are left, put behind those that are there, make the
+-- same output as all of them at first.
 use Prim.Native.Nat.{_-_}
 use mathlib.Core.Path.{_≡_, refl, sym, _∙_}
 use lib.ListN.{length, drop}
@@ -9,7 +11,8 @@ use Rattle.text.proofs.put_all.Tie as tie
 
 abbrev Inv-loop : tie.InvT-loop
 Inv-loop out₀ used word at₀ k₀ out at k =
-    (length out ≡ length out₀) × (putAll (written out₀ used) word ≡ putAll (written out at) (drop k word))
+    (length out ≡ length out₀) × (putAll (written out₀ used) word
+    ≡ putAll (written out at) (drop k word))
 
 abbrev μ-loop : tie.MeasureT-loop
 μ-loop out₀ used word at₀ k₀ out at k = length word - k
@@ -30,7 +33,15 @@ loop-less : tie.Need-loop-less Inv-loop μ-loop
 loop-less c = omega arith
 
 loop-again : tie.Need-loop-again Inv-loop μ-loop
-loop-again c = (omega arith, c .before .before .before .before .before .before .loop .inv .1 ∙ rw (put-turn _ _ _ (c .before .before .before .before .before .loop-test .taken), c .before .before .put .ensures))
+loop-again c =
+    let at-loop = c .before .before .before .before .before .before in (
+      omega arith,
+      at-loop .loop .inv .1
+          ∙ rw (
+            put-turn _ _ _ (c .before .before .before .before .before .loop-test .taken),
+            c .before .before .put .ensures,
+          ),
+    )
 
 same-length : tie.Need-same-length Inv-loop μ-loop
 same-length c = omega arith

@@ -1,4 +1,4 @@
-use Prim.Native.Nat.{_-_}
+-- The line is its pieces, put one behind the other, as the definition joins them.
 use borrow.Author.Needs.{needs}
 use Rattle.text.specs.Answers.{decimal, said, put, putAll}
 use Rattle.text.proofs.Outputs.{put-append}
@@ -31,7 +31,23 @@ same-length c = search needs
 
 returns : tie.Need-returns
 unfolding said putAll
-returns c = rw (put-append, put-append, put-append, put-append, ← c .before .before .before .before .before .before .before .before .before .before .before .before .before .before .before .before .before .before .before .put-all .ensures, ← c .before .before .before .before .before .before .before .before .before .before .before .before .before .before .before .decimal .ensures, ← c .before .before .before .before .before .before .before .before .before .before .put-all2 .ensures, ← c .before .before .before .before .before .before .decimal2 .ensures) (c .before .before .put .ensures)
+returns c =
+    let at-decimal2 = c .before .before .before .before .before .before in
+    let at-put-all2 = at-decimal2 .before .before .before .before in
+    let at-decimal = at-put-all2 .before .before .before .before .before in
+    let at-put-all = at-decimal .before .before .before .before in
+    rw (
+      put-append,
+      put-append,
+      put-append,
+      put-append,
+      ← at-put-all .put-all .ensures,
+      ←
+          at-decimal .decimal .ensures,
+      ← at-put-all2 .put-all2 .ensures,
+      ←
+          at-decimal2 .decimal2 .ensures,
+    ) (c .before .before .put .ensures)
 
 pub say-spec : {M : Type 1} → statement M
 say-spec =

@@ -1,4 +1,4 @@
-use Prim.Native.Nat.{_-_}
+-- One word is the whole form, and its contract is the definition's.
 use borrow.Author.Needs.{needs}
 use Rattle.text.specs.Grammar.{after, shadeLine}
 use Rattle.text.proofs.shade_line.Statement.{statement}

@@ -1,4 +1,4 @@
-use Prim.Native.Nat.{_-_}
+-- The byte is L, R or neither, as the definition's tests go.
 use native.Mathlib.Omega.{arith}
 use borrow.Author.Needs.{needs}
 use Rattle.base.proofs.Tests.{tests}

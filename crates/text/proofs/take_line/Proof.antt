@@ -1,4 +1,5 @@
-use Prim.Native.Nat.{_-_}
+-- The form is a straight line of pieces, in code and in definition; so it is the pieces' contracts
+-- in a row.
 use borrow.Author.Needs.{needs}
 use Rattle.text.specs.Grammar.{after, takeLine}
 use Rattle.text.proofs.take_line.Statement.{statement}
@@ -27,7 +28,15 @@ side-at-requires c κs = search needs
 
 returns : tie.Need-returns
 unfolding takeLine
-returns c = rw (← c .before .before .before .before .before .after .ensures, ← c .before .before .before .place-at .ensures, ← c .before .after2 .ensures, ← c .side-at .ensures)
+returns c =
+    rw (
+      ← c .before .before .before .before .before .after .ensures,
+      ←
+          c .before .before .before .place-at .ensures,
+      ← c .before .after2 .ensures,
+      ←
+          c .side-at .ensures,
+    )
 
 pub take-line-spec : {M : Type 1} → statement M
 take-line-spec =

@@ -1,4 +1,5 @@
-use Prim.Native.Nat.{_-_}
+-- A dash is no turns, a first byte that is no letter is lost, and else the letters are read: the
+-- definition's three cases.
 use native.Mathlib.Omega.{arith}
 use borrow.Author.Needs.{needs}
 use Rattle.base.proofs.Tests.{tests, pick-no, eq-no}
@@ -22,14 +23,26 @@ side-at-requires c κs = search needs
 
 returns-2 : tie.Need-returns-2
 unfolding turnsAt
-returns-2 c = rw (← c .before .before .before .before .byte-at .ensures, ← c .before .before .side-at .ensures) (search (tests, needs) depth 12)
+returns-2 c =
+    rw (
+      ← c .before .before .before .before .byte-at .ensures,
+      ←
+          c .before .before .side-at .ensures,
+    ) (search (tests, needs) depth 12)
 
 letters-at-requires : tie.Need-letters-at-requires
 letters-at-requires c κs = search needs
 
 returns-3 : tie.Need-returns-3
 unfolding turnsAt
-returns-3 c = rw (← c .before .before .before .before .before .byte-at .ensures, ← c .before .before .before .side-at .ensures) (pick-no _ _ _ _ (eq-no _ _ (c .before .before .before .before .if1 .left)) (pick-no _ _ _ _ (eq-no _ _ (c .before .if2 .left)) (c .letters-at .ensures)))
+returns-3 c =
+    rw (
+      ← c .before .before .before .before .before .byte-at .ensures,
+      ←
+          c .before .before .before .side-at .ensures,
+    )
+    (pick-no _ _ _ _ (eq-no _ _ (c .before .before .before .before .if1 .left))
+    (pick-no _ _ _ _ (eq-no _ _ (c .before .if2 .left)) (c .letters-at .ensures)))
 
 pub turns-at-spec : {M : Type 1} → statement M
 turns-at-spec =

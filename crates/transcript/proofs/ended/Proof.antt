@@ -1,4 +1,5 @@
-use Prim.Native.Nat.{_-_}
+-- The line at hand is answered by `later_of`, its answer is put by `say`, and the next line begins
+-- empty: the definition's three parts.
 use borrow.Author.Needs.{needs}
 use Rattle.transcript.specs.Feeding.{ended}
 use Rattle.transcript.proofs.ended.Statement.{statement}
@@ -24,7 +25,10 @@ same-length-4 c = search needs
 
 returns : tie.Need-returns
 unfolding ended
-returns c = rw (← c .before .before .before .before .before .before .before .before .before .before .before .later-of .ensures, ← c .before .before .say .ensures)
+returns c =
+    let at-later-of = c .before .before .before .before .before .before .before .before .before
+    .before .before in
+    rw (← at-later-of .later-of .ensures, ← c .before .before .say .ensures)
 
 pub ended-spec : {M : Type 1} → statement M
 ended-spec =

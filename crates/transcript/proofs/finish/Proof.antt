@@ -1,17 +1,29 @@
-use Prim.Native.Nat.{_-_}
-use mathlib.Core.Path.{refl}
+-- `finish` meets its contract: a line at hand is ended by a newline, and where there is none
+-- nothing is printed.
+use mathlib.Core.Path.{sym, _∙_}
+use Rattle.base.proofs.Tests.{pick-yes, pick-no}
+use Rattle.transcript.specs.Feeding.{finish}
 use borrow.Author.Needs.{needs}
-use Rattle.base.proofs.Tests.{pick-yes, pick-no, eq-yes, eq-no}
-use Rattle.transcript.specs.Feeding.{ended, finished}
 use Rattle.transcript.proofs.finish.Statement.{statement}
 use Rattle.transcript.proofs.finish.Tie as tie
 
-returns : tie.Need-returns
-unfolding finished
-returns c = pick-yes _ _ _ _ (eq-yes _ _ (c .if1 .taken)) refl
+bare-requires : tie.Need-bare-requires
+bare-requires c κs = search needs
 
-ended-requires : tie.Need-ended-requires
-ended-requires c κs = search needs
+emptied-requires : tie.Need-emptied-requires
+emptied-requires c κs = search needs
+
+returns : tie.Need-returns
+unfolding finish
+returns c =
+    pick-yes _ _ _ _ (sym (c .before .if1 .taken) ∙ c .before .before .bare .ensures)
+    (c .emptied .ensures _ _ _ _ _)
+
+slice-aggregate-block : tie.Need-slice-aggregate-block
+slice-aggregate-block c = search needs
+
+block-requires : tie.Need-block-requires
+block-requires c κs = search needs
 
 same-length : tie.Need-same-length
 same-length c = search needs
@@ -25,18 +37,29 @@ same-length-3 c = search needs
 same-length-4 : tie.Need-same-length-4
 same-length-4 c = search needs
 
+same-length-5 : tie.Need-same-length-5
+same-length-5 c = search needs
+
 returns-2 : tie.Need-returns-2
-unfolding finished
-returns-2 c = pick-no _ _ _ _ (eq-no _ _ (c .before .before .before .before .before .before .before .before .before .before .before .before .before .if1 .left)) (c .before .before .before .before .before .before .before .before .ended .ensures)
+unfolding finish
+returns-2 c =
+    let at-block = c .before .before .before .before .before .before .before .before .before .before
+    in let at-test = at-block .before .before .before .before .before .before .before in
+    pick-no _ _ _ _ (sym (at-test .if1 .left) ∙ at-test .before .bare .ensures)
+    (at-block .block .ensures)
 
 pub finish-spec : {M : Type 1} → statement M
 finish-spec =
     tie.close
     (tie.spec
+    bare-requires
+    emptied-requires
     returns
-    ended-requires
+    slice-aggregate-block
+    block-requires
     same-length
     same-length-2
     same-length-3
     same-length-4
+    same-length-5
     returns-2)

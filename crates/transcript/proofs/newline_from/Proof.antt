@@ -1,3 +1,5 @@
+-- Each turn passes one byte that is no newline, so the search from the next position finds the
+-- same.
 use Prim.Native.Nat.{_-_}
 use mathlib.Core.Path.{_≡_, refl, sym, _∙_}
 use lib.ListN.{length, drop}
@@ -22,7 +24,12 @@ shared-slice-read-if1 : tie.Need-shared-slice-read-if1 Inv-loop μ-loop
 shared-slice-read-if1 c = omega arith
 
 returns : tie.Need-returns Inv-loop μ-loop
-returns c = rw (c .before .before .before .loop .inv, newline-turn _ _ (c .before .before .loop-test .taken)) (pick-yes _ _ _ _ (eq-yes _ _ (c .if1 .taken)) refl)
+returns c =
+    rw (
+      c .before .before .before .loop .inv,
+      newline-turn _ _
+          (c .before .before .loop-test .taken),
+    ) (pick-yes _ _ _ _ (eq-yes _ _ (c .if1 .taken)) refl)
 
 add-at : tie.Need-add-at Inv-loop μ-loop
 add-at c = omega arith
@@ -31,7 +38,10 @@ loop-less : tie.Need-loop-less Inv-loop μ-loop
 loop-less c = omega arith
 
 loop-again : tie.Need-loop-again Inv-loop μ-loop
-loop-again c = c .before .before .before .loop .inv ∙ sym (rw (newline-turn _ _ (c .before .before .loop-test .taken)) (pick-no _ _ _ _ (eq-no _ _ (c .if1 .left)) refl))
+loop-again c =
+    c .before .before .before .loop .inv
+    ∙ sym (rw (newline-turn _ _ (c .before .before .loop-test .taken))
+    (pick-no _ _ _ _ (eq-no _ _ (c .if1 .left)) refl))
 
 returns-2 : tie.Need-returns-2 Inv-loop μ-loop
 returns-2 c = rw (c .before .loop .inv) (newline-none _ _ (c .loop-test .left))

@@ -1,3 +1,4 @@
+-- Each return is a case of the definition.
 use borrow.Author.Needs.{needs}
 use Rattle.base.proofs.Tests.{tests}
 use Rattle.words.specs.Words.{phaseOf}

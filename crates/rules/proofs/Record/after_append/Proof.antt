@@ -1,4 +1,4 @@
-use Prim.Native.Nat.{_-_}
+-- The test for the last node picks one of the definition's two records.
 use borrow.Author.Needs.{needs}
 use Rattle.base.proofs.Tests.{tests}
 use Rattle.rules.specs.Records.{afterAppend}

@@ -1,4 +1,4 @@
-use Prim.Native.Nat.{_-_}
+-- The fields stored are those that the definition sets; `one_more` gives the cycles.
 use borrow.Author.Needs.{needs}
 use Rattle.rules.proofs.Record.closed.Statement.{statement}
 use Rattle.rules.proofs.Record.closed.Tie as tie

@@ -1,0 +1,164 @@
+-- `all_steps` meets its contract: before each turn the n steps from the start come to the n - done
+-- steps from here. `stride_and_step` goes on by its steps, and ends the run where its last one is
+-- refused or leaves a count past its limit, after which a step is refused with code 2.
+use Prim.Native.Nat.{_-_, _≤_}
+use mathlib.Core.Path.{_≡_, refl, sym, _∙_}
+use lib.ListN.{length}
+use native.Mathlib.Omega.{arith}
+use native.Mathlib.Nat.{sub-zero}
+use Rattle.base.proofs.Tests.{not-no, not-yes}
+use Rattle.rules.specs.Table.{state}
+use Rattle.rules.specs.Check.{bound}
+use Rattle.strides.specs.Leads.{more, Passes}
+use Rattle.batch.proofs.Runs.{refused-end, gone-on, spoilt-end, none-left}
+use Rattle.batch.proofs.all_steps.Statement.{statement}
+use Rattle.batch.proofs.all_steps.Tie as tie
+
+abbrev Inv-loop : tie.InvT-loop
+Inv-loop left₀ right₀ colour₀ b n rec₀ answer₀ done₀ left right colour rec answer done =
+    (length left ≡ length left₀) × (length right ≡ length right₀) ×
+    (length colour ≡ length colour₀) × (done ≤ n) × (Passes (state left right colour rec)) ×
+    (b ≡ bound 2 (rec .m) (rec .r)) ×
+    (more n 0 answer₀ (state left₀ right₀ colour₀ rec₀)
+    ≡ more (n - done) done answer (state left right colour rec))
+
+abbrev μ-loop : tie.MeasureT-loop
+μ-loop left₀ right₀ colour₀ b n rec₀ answer₀ done₀ left right colour rec answer done = n - done
+
+loop-holds : tie.Need-loop-holds Inv-loop μ-loop
+loop-holds c = (
+  refl,
+  refl,
+  refl,
+  omega arith,
+  c .before .before .before .pre .0,
+  c .before .before .before .pre .1,
+  rw sub-zero,
+)
+
+sub-stride-and-step : tie.Need-sub-stride-and-step Inv-loop μ-loop
+sub-stride-and-step c = omega arith
+
+sub-stride-and-step-2 : tie.Need-sub-stride-and-step-2 Inv-loop μ-loop
+sub-stride-and-step-2 c = omega arith
+
+stride-and-step-requires : tie.Need-stride-and-step-requires Inv-loop μ-loop
+stride-and-step-requires c κs = (
+  c .before .before .before .before .loop .inv .4,
+  c .before .before .before .before .loop .inv .5,
+)
+
+add-done : tie.Need-add-done Inv-loop μ-loop
+add-done c = omega arith
+
+code-requires : tie.Need-code-requires Inv-loop μ-loop
+code-requires c κs = omega arith
+
+same-length : tie.Need-same-length Inv-loop μ-loop
+same-length c = omega arith
+
+same-length-2 : tie.Need-same-length-2 Inv-loop μ-loop
+same-length-2 c = omega arith
+
+same-length-3 : tie.Need-same-length-3 Inv-loop μ-loop
+same-length-3 c = omega arith
+
+returns : tie.Need-returns Inv-loop μ-loop
+returns c =
+    let at-step = c .before .before .before .before .before .before .before .before .before .before
+    in
+    let at-loop = at-step .before .before .before .before .before in
+    refused-end _ _ _ _ _ (at-step .stride-and-step .ensures .1) _ _ _ (omega arith)
+    (λ z. c .if1 .taken ((c .before .code .ensures) ∙ z)) ∙ sym (at-loop .loop .inv .6)
+
+add-done-2 : tie.Need-add-done-2 Inv-loop μ-loop
+add-done-2 c = omega arith
+
+cycle-ok-requires : tie.Need-cycle-ok-requires Inv-loop μ-loop
+cycle-ok-requires c κs = omega arith
+
+ended-requires : tie.Need-ended-requires Inv-loop μ-loop
+ended-requires c κs = omega arith
+
+same-length-4 : tie.Need-same-length-4 Inv-loop μ-loop
+same-length-4 c = omega arith
+
+same-length-5 : tie.Need-same-length-5 Inv-loop μ-loop
+same-length-5 c = omega arith
+
+same-length-6 : tie.Need-same-length-6 Inv-loop μ-loop
+same-length-6 c = omega arith
+
+returns-2 : tie.Need-returns-2 Inv-loop μ-loop
+returns-2 c =
+    let at-step = c .before .before .before .before .before .before .before .before .before .before
+    .before .before .before in
+    let at-loop = at-step .before .before .before .before .before in
+    spoilt-end _ _ _ _ _ (at-step .stride-and-step .ensures .1)
+    (not-yes _ (c .before .if2 .taken) ∙ c .before .before .cycle-ok .ensures)
+    (sym (c .before .before .before .before .code .ensures)
+    ∙ c .before .before .before .if1 .left) _ _ _ _ (omega arith) (c .ended .ensures .0)
+    (c .ended .ensures .1) ∙ sym (at-loop .loop .inv .6)
+
+loop-less : tie.Need-loop-less Inv-loop μ-loop
+loop-less c = omega arith
+
+loop-again : tie.Need-loop-again Inv-loop μ-loop
+loop-again c =
+    let at-step = c .before .before .before .before .before .before .before .before .before .before
+    .before .before in
+    let at-loop = at-step .before .before .before .before .before in (
+      omega arith,
+      omega arith,
+      omega arith,
+      omega arith,
+      at-step .stride-and-step .ensures .1 .passes
+          (not-no _ (c .if2 .left) ∙ c .before .cycle-ok .ensures),
+      rw (at-step .stride-and-step .ensures .1 .m, at-step .stride-and-step .ensures .1 .r)
+          (at-loop .loop .inv .5),
+      at-loop .loop .inv .6
+          ∙ gone-on _ _ _ _ _ (at-step .stride-and-step .ensures .1) _ _ _ _ (omega arith)
+          (sym (c .before .before .before .code .ensures) ∙ c .before .before .if1 .left),
+    )
+
+same-length-7 : tie.Need-same-length-7 Inv-loop μ-loop
+same-length-7 c = omega arith
+
+same-length-8 : tie.Need-same-length-8 Inv-loop μ-loop
+same-length-8 c = omega arith
+
+same-length-9 : tie.Need-same-length-9 Inv-loop μ-loop
+same-length-9 c = omega arith
+
+returns-3 : tie.Need-returns-3 Inv-loop μ-loop
+returns-3 c = none-left _ _ _ _ (omega arith) ∙ sym (c .before .loop .inv .6)
+
+pub all-steps-spec : {M : Type 1} → statement M
+all-steps-spec =
+    tie.close
+    (tie.spec
+    Inv-loop
+    μ-loop
+    loop-holds
+    sub-stride-and-step
+    sub-stride-and-step-2
+    stride-and-step-requires
+    add-done
+    code-requires
+    same-length
+    same-length-2
+    same-length-3
+    returns
+    add-done-2
+    cycle-ok-requires
+    ended-requires
+    same-length-4
+    same-length-5
+    same-length-6
+    returns-2
+    loop-less
+    loop-again
+    same-length-7
+    same-length-8
+    same-length-9
+    returns-3)

@@ -1,0 +1,42 @@
+-- Words for contracts: what a call for C is given, and what it tells and leaves.
+use Prim.Native.Nat.{ℕ}
+use mathlib.Core.Bool.{true}
+use mathlib.Core.Path.{_≡_}
+use Rattle.base.specs.Lent.{was, is}
+use Rattle.rules.specs.Lent.{Slice}
+use Rattle.rules.specs.Table.{State, Outcome}
+use Rattle.rules.specs.Schedules.{Followed}
+use Rattle.words.specs.Words.{isRecord}
+use Rattle.jenturik_c.specs.Face.{Faced, faced, face}
+use Rattle.jenturik_c.specs.Runs.{FacedRun, facedRun, faceRun, lastTold}
+use Rattle.jenturik_c.specs.declared.Told.{Told}
+
+-- what a call does not write: it is what it was
+abbrev pub kept : Slice → Slice
+kept lent = record { entry = lent .entry; exit = lent .entry }
+
+-- what it tells, and the slices and the words as they are
+abbrev pub tells : Told → Slice → Slice → Slice → Slice → Faced
+tells t left right colour words = faced t (is left) (is right) (is colour) (is words)
+
+-- the call f of the slices and the words as they were
+abbrev pub facing : (State → Outcome) → Slice → Slice → Slice → Slice → Faced
+facing f left right colour words = face f (was left) (was right) (was colour) (was words)
+
+-- the same where many steps are made: how many were done, and the code
+abbrev pub runs : ℕ → ℕ → Slice → Slice → Slice → Slice → FacedRun
+runs n code left right colour words =
+    facedRun n code (is left) (is right) (is colour) (is words)
+
+abbrev pub facingRun : (State → Followed) → Slice → Slice → Slice → Slice → FacedRun
+facingRun f left right colour words =
+    faceRun f (was left) (was right) (was colour) (was words)
+
+-- what the last of n collector steps answers
+abbrev pub facingLast : ℕ → Slice → Slice → Slice → Slice → Told
+facingLast n left right colour words =
+    lastTold n (was left) (was right) (was colour) (was words)
+
+-- [C 9] words that were a record's are a record's
+abbrev pub Stays : Slice → Type 0
+Stays words = true ≡ isRecord (was words) → true ≡ isRecord (is words)

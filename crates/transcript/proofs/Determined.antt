@@ -1,0 +1,117 @@
+-- A call's promise determines all that it leaves, for the public calls of the program's crates: any
+-- two outcomes that a contract admits are equal. `Learnt κs a r s` is what a caller learns of a
+-- call: κs the lifetimes, a the arguments, r what it hands back, s the lent slices as it leaves
+-- them.
+use Prim.Native.Nat.{ℕ}
+use mathlib.Core.Path.{_≡_, sym, ap, _∙_}
+use mathlib.Core.List.{List, [], _++_}
+use denote.Ref.{now}
+use lib.ListN.{getD, take-append-drop}
+use Rattle.rules.specs.Table.{state}
+use Rattle.rules.specs.declared.Record.{Record}
+use Rattle.text.specs.Answers.{written}
+use Rattle.text.proofs.read.Reads as read
+use Rattle.text.proofs.say.Reads as say
+use Rattle.lines.specs.Lines.{prints}
+use Rattle.lines.proofs.first.Reads as first
+use Rattle.lines.proofs.later.Reads as later
+use Rattle.transcript.specs.Feeding.{Stand, held, stand}
+use Rattle.transcript.specs.declared.Session.{Session}
+use Rattle.transcript.specs.declared.Stage.{Stage}
+use Rattle.transcript.proofs.start.Reads as start
+use Rattle.transcript.proofs.is_over.Reads as is-over
+use Rattle.transcript.proofs.block.Reads as block
+use Rattle.transcript.proofs.finish.Reads as finish
+use Rattle.transcript.proofs.turn.Reads as turn
+
+-- two things that equal one are equal
+determined : {A : Type 0} {a b c : A} → a ≡ c → b ≡ c → a ≡ b
+determined p q = p ∙ sym q
+
+pub read-determined : (κs : _) (a : _) (r r′ : _) (s s′ : _) → read.Learnt κs a r s
+    → read.Learnt κs a r′ s′ → r ≡ r′
+read-determined κs a r r′ s s′ = determined
+
+pub say-determined : (κs : _) (a : _) (r r′ : _) (s s′ : _) → say.Learnt κs a r s
+    → say.Learnt κs a r′ s′
+    → written (now (s .0)) r ≡ written (now (s′ .0)) r′
+say-determined κs a r r′ s s′ = determined
+
+pub first-determined : (κs : _) (a : _) (r r′ : _) (s s′ : _) → first.Learnt κs a r s
+    → first.Learnt κs a r′ s′
+    → prints (r .code) (r .node) (state (now (s .0)) (now (s .1 .0)) (now (s .1 .1 .0)) (r .rec))
+    ≡ prints (r′ .code) (r′ .node) (state (now (s′ .0)) (now (s′ .1 .0)) (now (s′ .1 .1 .0))
+    (r′ .rec))
+first-determined κs a r r′ s s′ = determined
+
+pub later-determined : (κs : _) (a : _) (r r′ : _) (s s′ : _) → later.Learnt κs a r s
+    → later.Learnt κs a r′ s′
+    → prints (r .code) (r .node) (state (now (s .0)) (now (s .1 .0)) (now (s .1 .1 .0)) (r .rec))
+    ≡ prints (r′ .code) (r′ .node) (state (now (s′ .0)) (now (s′ .1 .0)) (now (s′ .1 .1 .0))
+    (r′ .rec))
+later-determined κs a r r′ s s′ = determined
+
+pub start-determined : (κs : _) (a : _) (r r′ : _) (s s′ : _) → start.Learnt κs a r s
+    → start.Learnt κs a r′ s′ → r ≡ r′
+start-determined κs a r r′ s s′ = determined
+
+pub is-over-determined : (κs : _) (a : _) (r r′ : _) (s s′ : _) → is-over.Learnt κs a r s
+    → is-over.Learnt κs a r′ s′ → r ≡ r′
+is-over-determined κs a r r′ s s′ = determined
+
+-- the session, and the five buffers
+abbrev pub Same : Session → Session → (l k c line out l′ k′ c′ line′ out′ : List ℕ) → Type 0
+Same s t l k c line out l′ k′ c′ line′ out′ = (s ≡ t) × (l ≡ l′) × (k ≡ k′) × (c ≡ c′) ×
+    (line ≡ line′) × (out ≡ out′)
+
+session : Stage → Record → ℕ → ℕ → Session
+session st x at used = record { stage = st; run = record { rec = x; at = at; used = used } }
+
+-- where a session stands tells all of it
+tells : (s t : Session) (l k c line out l′ k′ c′ line′ out′ : List ℕ) → stand s l k c line out
+    ≡ stand t l′ k′ c′ line′ out′ → Same s t l k c line out l′ k′ c′ line′ out′
+unfolding session
+tells s t l k c line out l′ k′ c′ line′ out′ e =
+    let p : s .stage ≡ t .stage = ap (λ (x : Stand). x .stage) e in
+    let q : s .run .rec ≡ t .run .rec = ap (λ (x : Stand). x .going .state .rec) e in
+    let a : s .run .at ≡ t .run .at = ap (λ (x : Stand). x .going .line .used) e in
+    let u : s .run .used ≡ t .run .used = ap (λ (x : Stand). x .going .out .used) e in
+    let all : session (s .stage) (s .run .rec) (s .run .at) (s .run .used)
+    ≡ session (t .stage) (t .run .rec) (t .run .at) (t .run .used) = rw (p, q, a, u) in (
+      all,
+      sym (take-append-drop (held (s .stage)) l)
+          ∙ ap (λ (x : Stand). getD (x .going .state .edges) 0 [] ++ x .left) e
+          ∙ take-append-drop (held (t .stage)) l′,
+      sym (take-append-drop (held (s .stage)) k)
+          ∙ ap (λ (x : Stand). getD (x .going .state .edges) 1 [] ++ x .right) e
+          ∙ take-append-drop (held (t .stage)) k′,
+      sym (take-append-drop (held (s .stage)) c)
+          ∙ ap (λ (x : Stand). x .going .state .colour ++ x .colour) e
+          ∙ take-append-drop (held (t .stage)) c′,
+      ap (λ (x : Stand). x .going .line .out) e,
+      ap (λ (x : Stand). x .going .out .out) e,
+    )
+
+pub block-determined : (κs : _) (a : _) (r r′ : _) (s s′ : _) → block.Learnt κs a r s
+    → block.Learnt κs a r′ s′
+    → Same r r′ (now (s .0)) (now (s .1 .0)) (now (s .1 .1 .0)) (now (s .1 .1 .1 .0))
+    (now (s .1 .1 .1 .1 .0))
+    (now (s′ .0)) (now (s′ .1 .0)) (now (s′ .1 .1 .0)) (now (s′ .1 .1 .1 .0))
+    (now (s′ .1 .1 .1 .1 .0))
+block-determined κs a r r′ s s′ p q = tells _ _ _ _ _ _ _ _ _ _ _ _ (determined p q)
+
+pub finish-determined : (κs : _) (a : _) (r r′ : _) (s s′ : _) → finish.Learnt κs a r s
+    → finish.Learnt κs a r′ s′
+    → Same r r′ (now (s .0)) (now (s .1 .0)) (now (s .1 .1 .0)) (now (s .1 .1 .1 .0))
+    (now (s .1 .1 .1 .1 .0))
+    (now (s′ .0)) (now (s′ .1 .0)) (now (s′ .1 .1 .0)) (now (s′ .1 .1 .1 .0))
+    (now (s′ .1 .1 .1 .1 .0))
+finish-determined κs a r r′ s s′ p q = tells _ _ _ _ _ _ _ _ _ _ _ _ (determined p q)
+
+pub turn-determined : (κs : _) (a : _) (r r′ : _) (s s′ : _) → turn.Learnt κs a r s
+    → turn.Learnt κs a r′ s′
+    → Same r r′ (now (s .0)) (now (s .1 .0)) (now (s .1 .1 .0)) (now (s .1 .1 .1 .0))
+    (now (s .1 .1 .1 .1 .0))
+    (now (s′ .0)) (now (s′ .1 .0)) (now (s′ .1 .1 .0)) (now (s′ .1 .1 .1 .0))
+    (now (s′ .1 .1 .1 .1 .0))
+turn-determined κs a r r′ s s′ p q = tells _ _ _ _ _ _ _ _ _ _ _ _ (determined p q)

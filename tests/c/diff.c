@@ -1,0 +1,174 @@
+/* The batch against single steps, and both against plain C: random tables, damaged ones, invented
+   records, wrong lengths. diff RUNS: as many runs; says how many steps were made and which codes
+   came, and ends with 1 at the first difference. */
+#include "library.h"
+#include <stdio.h>
+#include <stdlib.h>
+#include <string.h>
+
+#define MOST 4200
+
+struct place {
+    uint16_t left[MOST], right[MOST];
+    uint8_t colour[MOST];
+    uint32_t words[JENTURIK_WORDS];
+    size_t done;
+    struct answer answer; /* of the last step, or of the one that was refused */
+};
+
+static struct place begun, batch, steps, plain;
+static struct record x;
+static struct table t;
+static uint64_t seed = 88172645463325252u;
+
+static uint32_t below(uint32_t n) {
+    seed ^= seed << 13, seed ^= seed >> 7, seed ^= seed << 17;
+    return (uint32_t)(seed >> 32) % n;
+}
+
+static int one_in(uint32_t n) { return below(n) == 0; }
+
+/* A table of m nodes with good edges and colours; the colours suit the phase more often than not.
+ */
+static void random_table(uint32_t m) {
+    uint32_t grays = one_in(2) ? 3 : 3 * m;
+    for (uint32_t i = 0; i < m; i++) {
+        uint32_t e = below(m), f = one_in(2) ? 0 : below(m);
+        begun.left[i] = e == 1 ? 0 : e, begun.right[i] = f == 1 ? 0 : f;
+        begun.colour[i] = one_in(grays) ? 1 : below(2) * 2;
+        if (x.phase == APPEND && i < x.r + 2u) begun.colour[i] = 2;
+        if (x.phase == APPEND && begun.colour[i] == 1) begun.colour[i] = 2;
+    }
+}
+
+static void damage(uint32_t m) {
+    uint32_t i = below(m);
+    switch (below(4)) {
+    case 0:
+        begun.left[i] = one_in(2) ? 1 : m + below(9);
+        break;
+    case 1:
+        begun.right[i] = one_in(2) ? 1 : m + below(9);
+        break;
+    case 2:
+        begun.colour[i] = 3 + below(253);
+        break;
+    case 3:
+        begun.colour[i] = 1;
+        break;
+    }
+}
+
+/* A record that passes, and now and then one that does not. */
+static void random_record(uint32_t m) {
+    uint32_t b;
+    memset(&x, 0, sizeof x);
+    x.m = m, x.r = 1 + below(m - 2 < 64 ? m - 2 : 64);
+    b = m * m + 5 * m + x.r + 2;
+    x.phase = one_in(3) ? below(6) : one_in(3) ? APPEND : SCAN;
+    x.i = x.phase == ROOTS ? below(x.r + 2) : below(m), x.k = 1 + below(m);
+    x.owes = one_in(3), x.owed = x.owes ? below(m) : 0;
+    if (x.owed == 1) x.owed = 0;
+    x.last = one_in(2) || x.r + 2u >= m ? 1 : x.r + 2 + below(m - x.r - 2);
+    x.steps = one_in(3) ? b - 1 - below(b < 60 ? b : 60) : below(b);
+    x.cycles = one_in(9) ? UINT32_MAX - below(2) : below(100);
+    x.took = below(b + 1), x.blackened = one_in(2) ? m - below(2) : below(m + 1),
+    x.inuse = below(m + 1);
+    if (!one_in(12)) return;
+    switch (below(10)) {
+    case 0:
+        x.m = below(5000);
+        break;
+    case 1:
+        x.r = below(70);
+        break;
+    case 2:
+        x.i = below(5000);
+        break;
+    case 3:
+        x.k = below(2) * (m + 1);
+        break;
+    case 4:
+        x.owes = 1, x.owed = one_in(2) ? 1 : m + below(3);
+        break;
+    case 5:
+        x.last = below(m + 3);
+        break;
+    case 6:
+        x.steps = b + below(3);
+        break;
+    case 7:
+        x.took = b + below(3);
+        break;
+    case 8:
+        x.blackened = m + below(3);
+        break;
+    case 9:
+        x.inuse = m + below(3);
+        break;
+    }
+}
+
+static void lend(struct place *p) {
+    memcpy(p, &begun, sizeof begun);
+    t.left = p->left, t.right = p->right, t.colour = p->colour;
+}
+
+static void by_plain(size_t n) {
+    struct answer a = {NAMED, 0, 0};
+    int code;
+    lend(&plain), plain.done = 0;
+    code = plain_check(&t, &x);
+    if (code) a.kind = REFUSED, a.code = code;
+    while (plain.done < n && !a.code) {
+        a = plain_step(&t, &x);
+        if (!a.code) plain.done++;
+    }
+    words_of(plain.words, &x), plain.answer = a;
+}
+
+static void by_batch(size_t n) {
+    jenturik_last a = library_many(&t, batch.words, n);
+    batch.done = a.done, batch.answer = (struct answer){a.what, a.code, a.node};
+}
+
+static void by_steps(size_t n) {
+    for (steps.done = 0; steps.done < n && library_collect(&t, steps.words).code == 0; steps.done++)
+        continue;
+}
+
+static int differ(const struct place *a, const struct place *b) {
+    return a->done != b->done || memcmp(a->left, b->left, sizeof a->left) ||
+           memcmp(a->right, b->right, sizeof a->right) ||
+           memcmp(a->colour, b->colour, sizeof a->colour) ||
+           memcmp(a->words, b->words, sizeof a->words);
+}
+
+int main(int argc, char **argv) {
+    static uint64_t codes[11];
+    uint64_t runs = argc > 1 ? strtoull(argv[1], 0, 10) : 0, made = 0;
+    if (!runs) return fprintf(stderr, "diff RUNS\n"), 2;
+    for (uint64_t k = 0; k < runs; k++) {
+        uint32_t m = 3 + below(one_in(200) ? 4094 : one_in(4) ? 300 : 12);
+        size_t n = one_in(4) ? below(6) : below(2 * m * m + 50);
+        if (n > 60000) n = 60000;
+        memset(&begun, 0, sizeof begun);
+        random_record(m), random_table(m);
+        for (uint32_t d = one_in(3) ? below(3) : 0; d > 0; d--) damage(m);
+        t.lefts = t.rights = t.colours = m;
+        if (one_in(60)) *(size_t *[]){&t.lefts, &t.rights, &t.colours}[below(3)] = below(m + 3);
+        words_of(begun.words, &x);
+        lend(&batch), by_batch(n);
+        lend(&steps), by_steps(n);
+        by_plain(n);
+        if (differ(&batch, &steps) || differ(&batch, &plain) ||
+            memcmp(&batch.answer, &plain.answer, sizeof batch.answer))
+            return printf("run %llu differs: M = %u, n = %zu\n", (unsigned long long)k, m, n), 1;
+        made += batch.done, codes[batch.answer.code]++;
+    }
+    printf("%llu runs, %llu steps, no difference; code 0: %llu, 1: %llu, 2: %llu, 7: %llu\n",
+           (unsigned long long)runs, (unsigned long long)made, (unsigned long long)codes[0],
+           (unsigned long long)codes[1], (unsigned long long)codes[2],
+           (unsigned long long)codes[7]);
+    return 0;
+}
