@@ -1,6 +1,7 @@
-"""lines.py OURS C UNLOCKED TIMED DIR: the schedule program OURS and the one in plain C, with and without locks, on the same schedules, by
-turns; prints the tables of docs/BENCHMARKS.md. A time is the least of RUNS, output to /dev/null. TIMED is the program of timed.c; the
-schedules are put into DIR. Ends with 1 where two write different bytes."""
+"""lines.py OURS C UNLOCKED TIMED DIR: the schedule program OURS and the one in plain C, with and
+without locks, on the same schedules, by turns; prints the tables of docs/BENCHMARKS.md. A time is
+the least of RUNS, output to /dev/null. TIMED is the program of timed.c; the schedules are put into
+DIR. Ends with 1 where two write different bytes."""
 import os
 import subprocess
 import sys
@@ -26,7 +27,8 @@ def measure(timer, programs, path):
     for _ in range(RUNS):
         for program in programs:
             with open(path, "rb") as given:
-                best[program] = min(best.get(program, (1 << 62, 0)), timed([timer, program], stdin=given)[1]())
+                one = timed([timer, program], stdin=given)[1]()
+                best[program] = min(best.get(program, (1 << 62, 0)), one)
     return [best[program] for program in programs]
 
 
@@ -51,7 +53,8 @@ def codes(text):
 
 def main(ours, plain, unlocked, timer, folder):
     inputs = [("mixed", *mixture(LINES)), ("mixed, no collect", *mixture(LINES, 0))]
-    print("| input | lines | bytes | ours, ms | C, ms | C unlocked, ms | ours / C | ours / C unlocked |\n|---|---|---|---|---|---|---|---|")
+    print("| input | lines | bytes | ours, ms | C, ms | C unlocked, ms | ours / C "
+          "| ours / C unlocked |\n|---|---|---|---|---|---|---|---|")
     notes = []
     for name, first, body in inputs:
         path = os.path.join(folder, "lines.txt")
@@ -62,12 +65,14 @@ def main(ours, plain, unlocked, timer, folder):
             sys.exit("lines: two write different bytes on the input '%s'" % name)
         times = [t / 1e6 for t, _ in measure(timer, [ours, plain, unlocked], path)]
         ratios = [times[0] / t for t in times[1:]]
-        print("| %s | %s | %s | %.1f | %.1f | %.1f | %.2f | %.2f |" % (name, f"{LINES:,}", f"{len(first + body):,}", *times, *ratios), flush=True)
+        numbers = (name, f"{LINES:,}", f"{len(first + body):,}", *times, *ratios)
+        print("| %s | %s | %s | %.1f | %.1f | %.1f | %.2f | %.2f |" % numbers, flush=True)
         notes.append("%s: codes %s" % (name, codes(text)))
     print("\n| lines | ours, KiB at most | C, KiB at most |\n|---|---|---|")
     _, first, body = inputs[0]
     for times in (1, LONG):
-        print("| %s | %d | %d |" % (f"{times * LINES:,}", memory(timer, ours, first, body, times), memory(timer, plain, first, body, times)), flush=True)
+        most = [memory(timer, program, first, body, times) for program in (ours, plain)]
+        print("| %s | %d | %d |" % (f"{times * LINES:,}", *most), flush=True)
     print("\n" + "\n".join(notes))
 
 

@@ -9,7 +9,7 @@ use Rattle.rules.specs.Table.{State, refused}
 use Rattle.rules.specs.Check.{check}
 use Rattle.rules.specs.Steps.{step, collecting, codeOf}
 use Rattle.rules.specs.Schedules.{followed, follow, schedule, collects}
-use Rattle.strides.specs.Leads.{Lasted, lasted, more, Passes}
+use Rattle.ahead.specs.Leads.{Lasted, lasted, more, Passes}
 use Rattle.batch.specs.Last.{answering, lastAnswer}
 
 follows : (n e : ℕ) (a : Answer) (s : State) → codeOf a ≡ 0

@@ -6,7 +6,7 @@ use Rattle.rules.specs.Table.{State}
 use Rattle.rules.specs.Check.{cycleOk, check}
 use Rattle.rules.specs.Steps.{codeOf}
 use Rattle.rules.specs.declared.Answer.{Answer}
-use Rattle.strides.specs.Leads.{lasted, more, Passes}
+use Rattle.ahead.specs.Leads.{lasted, more, Passes}
 
 -- from s on d steps, and then one that answers a and leaves t, b being B
 pub record StrideAndStep (b : ℕ) (s : State) (d : ℕ) (a : Answer) (t : State) : Type 0 where

@@ -1,16 +1,16 @@
 // Many collector steps in one call: what is judged at each step is judged once, and runs of steps
 // are made at once.
+use ahead::Ahead;
 use rules::Answer;
 use rules::Phase;
 use rules::Record;
-use strides::Ahead;
 ghost use mathlib.Core.Path.{_≡_};
 ghost use Prim.Native.Nat.{_<_, _≤_};
 ghost use Rattle.rules.specs.Table.{refused, state};
 ghost use Rattle.rules.specs.Check.{bound};
 ghost use Rattle.rules.specs.Schedules.{schedule, collects};
 ghost use Rattle.rules.specs.declared.Answer.the-variants.{Named};
-ghost use Rattle.strides.specs.Leads.{lasted, more, Passes, Room, Leads};
+ghost use Rattle.ahead.specs.Leads.{lasted, more, Passes, Room, Leads};
 ghost use Rattle.batch.specs.Last.{many, lastAnswer};
 ghost use Rattle.batch.specs.StrideAndStep.{StrideAndStep};
 ghost use Rattle.base.specs.Lent.{is};
@@ -36,9 +36,9 @@ fn stride(left: &mut [u16], right: &mut [u16], colour: &mut [u8], x: Record, cap
     }
     let phase = x.phase;
     match phase {
-        Phase::Roots(i) => sweep::roots(left, right, colour, x, i, cap),
-        Phase::Scan(i, k) => mark::scans(left, right, colour, x, i, k, cap),
-        Phase::Append(i) => sweep::appends(left, right, colour, x, i, cap),
+        Phase::Roots(i) => in_order::roots(left, right, colour, x, i, cap),
+        Phase::Scan(i, k) => scanning::scans(left, right, colour, x, i, k, cap),
+        Phase::Append(i) => in_order::appends(left, right, colour, x, i, cap),
         Phase::Left(_) => Ahead { d: 0, rec: x },
         Phase::Right(_) => Ahead { d: 0, rec: x },
         Phase::Black(_) => Ahead { d: 0, rec: x },
@@ -60,7 +60,7 @@ fn stride_and_step(
         (r .answer) (state (is left) (is right) (is colour) (r .rec)) ⌝ }
 {
     let near = b - 1 - x.steps;
-    let l = stride(left, right, colour, x, strides::least(most, near as usize));
+    let l = stride(left, right, colour, x, ahead::least(most, near as usize));
     let y = l.rec;
     let phase = y.phase;
     let made = collector::phase_step(left, right, colour, y, phase);

@@ -14,7 +14,7 @@ use Rattle.rules.specs.Schedules.{followed, ran, follow, collects}
 use Rattle.rules.specs.declared.Record.{Record}
 use Rattle.rules.specs.declared.Ran.{Ran}
 use Rattle.rules.proofs.Refused.{refused-stays}
-use Rattle.words.specs.Words.{wordsOf, recordOf, isRecord}
+use Rattle.record_words.specs.Words.{wordsOf, recordOf, isRecord}
 use Rattle.bench_steps.specs.Steps.{stepped, steps}
 
 -- k of n steps were done and led to s

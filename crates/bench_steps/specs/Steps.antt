@@ -4,7 +4,7 @@ use mathlib.Core.List.{List, [], _∷_}
 use Rattle.base.specs.Choice.{pick}
 use Rattle.rules.specs.Table.{state}
 use Rattle.rules.specs.Schedules.{Followed, follow, collects}
-use Rattle.words.specs.Words.{wordsOf, recordOf, isRecord}
+use Rattle.record_words.specs.Words.{wordsOf, recordOf, isRecord}
 
 -- how many steps were done, and the three slices and the words as they are left
 pub record Stepped : Type 0 where

@@ -34,19 +34,19 @@ pub extern "C" fn jenturik_steps(
     left: &mut [u16],
     right: &mut [u16],
     colour: &mut [u8],
-    words: &mut [u32; words::WORDS],
+    words: &mut [u32; record_words::WORDS],
     n: usize,
 ) -> usize
     ensures { λ d. ⌜ stepped d (is left) (is right) (is colour) (is words)
         ≡ steps n (was left) (was right) (was colour) (was words) ⌝ }
 {
     let w = *words;
-    if !words::is_record(w) {
+    if !record_words::is_record(w) {
         return 0;
     }
-    let ran = one_by_one(left, right, colour, words::record_of(w), n);
+    let ran = one_by_one(left, right, colour, record_words::record_of(w), n);
     let rec = ran.rec;
-    let v = words::words_of(rec);
+    let v = record_words::words_of(rec);
     *words = v;
     ran.done
 }

@@ -11,14 +11,14 @@ ghost use Rattle.rules.specs.Table.{mostSlots, table, state, handed, outcome};
 ghost use Rattle.rules.specs.Collector.{shadeStep, afterRoots, scanStep, edgeStep, blackStep};
 ghost use Rattle.rules.specs.Collector.{appendWhite, appendStep, phaseStep};
 ghost use Rattle.rules.specs.Steps.{step, collecting};
-ghost use Rattle.rules.specs.Facts.{Good, Inside};
+ghost use Rattle.rules.specs.Facts.{Checked, InRange};
 ghost use Rattle.rules.specs.declared.Phase.the-variants.{Scan};
 ghost use Rattle.base.specs.Lent.{was, is};
 ghost use Rattle.rules.specs.Lent.{given, leaves};
 
 // Shades node n, and goes on to a phase.
 fn shade_step(colour: &mut [u8], x: Record, n: u16, then: Phase) -> Made
-    requires { ⌜ Good (x .m) (x .m) (length (now colour)) x ⌝ }
+    requires { ⌜ Checked (x .m) (x .m) (length (now colour)) x ⌝ }
     requires { ⌜ n < x .m ⌝ }
     ensures { λ r. ⌜ ((es : List (List ℕ)) → handed r es (is colour)
         ≡ shadeStep (table es (was colour) x) n then) ⌝ }
@@ -48,8 +48,8 @@ fn after_roots(m: u16, r: u16, i: u16) -> Phase
 
 // Scan i, k: Left i where node i is gray, else on to the next node.
 fn scan_step(colour: &[u8], x: Record, i: u16, k: u16) -> Made
-    requires { ⌜ Good (x .m) (x .m) (length (now colour)) x ⌝ }
-    requires { ⌜ Inside (x .m) (x .r) (Scan i k) ⌝ }
+    requires { ⌜ Checked (x .m) (x .m) (length (now colour)) x ⌝ }
+    requires { ⌜ InRange (x .m) (x .r) (Scan i k) ⌝ }
     ensures { λ r. ⌜ ((es : List (List ℕ)) → handed r es (was colour)
         ≡ scanStep (table es (was colour) x) i k) ⌝ }
 {
@@ -77,7 +77,7 @@ fn scan_step(colour: &[u8], x: Record, i: u16, k: u16) -> Made
 
 // Left i or Right i: shades e, that edge of node i, and goes on to a phase.
 fn edge_step(colour: &mut [u8], x: Record, i: u16, e: u16, then: Phase) -> Made
-    requires { ⌜ Good (x .m) (x .m) (length (now colour)) x ⌝ }
+    requires { ⌜ Checked (x .m) (x .m) (length (now colour)) x ⌝ }
     ensures { λ r. ⌜ ((es : List (List ℕ)) → handed r es (is colour)
         ≡ edgeStep (table es (was colour) x) i e then) ⌝ }
 {
@@ -89,7 +89,7 @@ fn edge_step(colour: &mut [u8], x: Record, i: u16, e: u16, then: Phase) -> Made
 
 // Black i: node i is black, and the scan begins again behind it.
 fn black_step(colour: &mut [u8], x: Record, i: u16) -> Made
-    requires { ⌜ Good (x .m) (x .m) (length (now colour)) x ⌝ }
+    requires { ⌜ Checked (x .m) (x .m) (length (now colour)) x ⌝ }
     requires { ⌜ i < x .m ⌝ }
     ensures { λ r. ⌜ ((es : List (List ℕ)) → handed r es (is colour)
         ≡ blackStep (table es (was colour) x) i) ⌝ }
@@ -104,7 +104,7 @@ fn black_step(colour: &mut [u8], x: Record, i: u16) -> Made
 
 // A white node i goes to the end of the free list.
 fn append_white(left: &mut [u16], right: &mut [u16], x: Record, i: u16) -> Made
-    requires { ⌜ Good (length (now left)) (length (now right)) (x .m) x ⌝ }
+    requires { ⌜ Checked (length (now left)) (length (now right)) (x .m) x ⌝ }
     requires { ⌜ i < x .m ⌝ }
     ensures { λ r. ⌜ ((c : List ℕ) → outcome r (is left) (is right) c
         ≡ appendWhite (state (was left) (was right) c x) i) ⌝ }
@@ -128,7 +128,7 @@ fn append_white(left: &mut [u16], right: &mut [u16], x: Record, i: u16) -> Made
 
 // [Append 1] Append i: black is made white, white goes to the free list.
 fn append_step(left: &mut [u16], right: &mut [u16], colour: &mut [u8], x: Record, i: u16) -> Made
-    requires { ⌜ Good (length (now left)) (length (now right)) (length (now colour)) x ⌝ }
+    requires { ⌜ Checked (length (now left)) (length (now right)) (length (now colour)) x ⌝ }
     requires { ⌜ i < x .m ⌝ }
     ensures { λ r. ⌜ leaves r left right colour ≡ appendStep (given left right colour x) i ⌝ }
 {
@@ -154,8 +154,8 @@ pub fn phase_step(
     x: Record,
     phase: Phase,
 ) -> Made
-    requires { ⌜ Good (length (now left)) (length (now right)) (length (now colour)) x ⌝ }
-    requires { ⌜ Inside (x .m) (x .r) phase ⌝ }
+    requires { ⌜ Checked (length (now left)) (length (now right)) (length (now colour)) x ⌝ }
+    requires { ⌜ InRange (x .m) (x .r) phase ⌝ }
     ensures { λ r. ⌜ leaves r left right colour ≡ phaseStep (given left right colour x) phase ⌝ }
 {
     match phase {

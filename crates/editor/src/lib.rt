@@ -13,7 +13,7 @@ ghost use lib.ListN.{length};
 ghost use Rattle.rules.specs.Table.{table, state, handed, outcome};
 ghost use Rattle.rules.specs.Editor.{look, linkTo, depart, pay};
 ghost use Rattle.rules.specs.Steps.{step, looking, linking, shading};
-ghost use Rattle.rules.specs.Facts.{Good, Owable};
+ghost use Rattle.rules.specs.Facts.{Checked, Owable};
 ghost use Rattle.rules.specs.declared.Record.{Record};
 ghost use Rattle.editor.specs.Codes.{lookCode};
 ghost use Rattle.base.specs.Lent.{was, is};
@@ -50,7 +50,7 @@ pub fn look(left: &[u16], right: &[u16], colour: &[u8], x: Record, p: Place) -> 
 
 // Link, from its source n: the target is walked, the edge moves, the shade is owed.
 fn link_to(left: &mut [u16], right: &mut [u16], x: Record, side: u32, q: Place, n: u16) -> Made
-    requires { ⌜ Good (length (now left)) (length (now right)) (x .m) x ⌝ }
+    requires { ⌜ Checked (length (now left)) (length (now right)) (x .m) x ⌝ }
     requires { ⌜ q .slot < x .r ⌝ }
     requires { ⌜ n < x .m ⌝ }
     requires { ⌜ side < 2 ⌝ }
@@ -70,7 +70,7 @@ fn link_to(left: &mut [u16], right: &mut [u16], x: Record, side: u32, q: Place, 
 
 // Link, from its source place.
 fn link_from(left: &mut [u16], right: &mut [u16], x: Record, p: Place, side: u32, q: Place) -> Made
-    requires { ⌜ Good (length (now left)) (length (now right)) (x .m) x ⌝ }
+    requires { ⌜ Checked (length (now left)) (length (now right)) (x .m) x ⌝ }
     requires { ⌜ p .slot < x .r ⌝ }
     requires { ⌜ q .slot < x .r ⌝ }
     requires { ⌜ side < 2 ⌝ }

@@ -181,9 +181,9 @@ fn tell(standing: Standing) {
 }
 
 fn main() {
-    let mut left = [0u16; 4096];
-    let mut right = [0u16; 4096];
-    let mut colour = [0u8; 4096];
+    let mut left = [0u16; rules::MOST_NODES];
+    let mut right = [0u16; rules::MOST_NODES];
+    let mut colour = [0u8; rules::MOST_NODES];
     let mut line = [0u8; transcript::LINE];
     let mut input = [0u8; BLOCK];
     let mut out = [0u8; OUT];

@@ -10,9 +10,9 @@ use Rattle.rules.specs.declared.Record.{Record}
 use Rattle.rules.specs.declared.Made.{Made}
 use Rattle.batch.specs.Last.{lastAnswer}
 use Rattle.rules.specs.declared.Answer.{Answer}
-use Rattle.words.specs.Words.{wordsOf, recordOf, isRecord}
+use Rattle.record_words.specs.Words.{wordsOf, recordOf, isRecord}
 use Rattle.jenturik_c.specs.Face.{toldOf, noRecord, shown, faced, face}
-use Rattle.jenturik_c.specs.Runs.{facedRun, faceRun, lastTold}
+use Rattle.jenturik_c.specs.Many.{facedRun, faceRun, lastTold}
 use Rattle.jenturik_c.specs.declared.Told.{Told}
 
 module _ (l r c w : List ℕ) where

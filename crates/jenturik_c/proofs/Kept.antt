@@ -25,12 +25,12 @@ use Rattle.rules.specs.declared.Walk.{Walk}
 use Rattle.rules.specs.declared.Walk.the-variants.{At, Damaged}
 use Rattle.rules.proofs.Laws.{step-looking}
 use Rattle.rules.proofs.Refused.{refused-stays}
-use Rattle.schedule.proofs.Runs.{schedule-run}
-use Rattle.words.specs.Words.{wordsOf, recordOf, isRecord}
-use Rattle.words.proofs.RoundTrip.{words-back}
+use Rattle.schedule.proofs.PartOfRun.{schedule-run}
+use Rattle.record_words.specs.Words.{wordsOf, recordOf, isRecord}
+use Rattle.record_words.proofs.RoundTrip.{words-back}
 use Rattle.jenturik_c.specs.Face.{Faced, toldOf, shown, faced, face}
 use Rattle.jenturik_c.specs.Flat.{stepsOf, scheduleOf, STEP_WORDS}
-use Rattle.jenturik_c.specs.Runs.{FacedRun, facedRun, shownRun, faceRun}
+use Rattle.jenturik_c.specs.Many.{FacedRun, facedRun, shownRun, faceRun}
 use Rattle.jenturik_c.specs.declared.Told.{Told}
 
 module _ (s : State) where

@@ -8,7 +8,7 @@ use Rattle.rules.specs.declared.Place.{Place}
 use Rattle.rules.specs.declared.Answer.{Answer}
 use Rattle.rules.specs.declared.Answer.the-variants.{Started, Named, Linked, Taken, Shaded, Looked}
 use Rattle.rules.specs.declared.Answer.the-variants.{Blackened, Whitened, Appended, Refused}
-use Rattle.words.specs.Words.{wordsOf, recordOf, isRecord}
+use Rattle.record_words.specs.Words.{wordsOf, recordOf, isRecord}
 use Rattle.jenturik_c.specs.declared.Told.{Told}
 
 -- [C 5] what was done: 0 where nothing was

@@ -9,7 +9,7 @@ use Rattle.rules.specs.Table.{State}
 use Rattle.rules.specs.Check.{check}
 use Rattle.rules.specs.Schedules.{Followed, followed, schedule}
 use Rattle.rules.specs.declared.Step.{Step}
-use Rattle.words.specs.Words.{word}
+use Rattle.record_words.specs.Words.{word}
 
 -- How many words a step has, and the number of each, by the names of include/jenturik.h.
 abbrev pub STEP_WORDS : ℕ

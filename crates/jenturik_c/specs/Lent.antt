@@ -6,9 +6,9 @@ use Rattle.base.specs.Lent.{was, is}
 use Rattle.rules.specs.Lent.{Slice}
 use Rattle.rules.specs.Table.{State, Outcome}
 use Rattle.rules.specs.Schedules.{Followed}
-use Rattle.words.specs.Words.{isRecord}
+use Rattle.record_words.specs.Words.{isRecord}
 use Rattle.jenturik_c.specs.Face.{Faced, faced, face}
-use Rattle.jenturik_c.specs.Runs.{FacedRun, facedRun, faceRun, lastTold}
+use Rattle.jenturik_c.specs.Many.{FacedRun, facedRun, faceRun, lastTold}
 use Rattle.jenturik_c.specs.declared.Told.{Told}
 
 -- what a call does not write: it is what it was

@@ -1,4 +1,4 @@
 pub mod Face
 pub mod Flat
-pub mod Runs
+pub mod Many
 pub mod Lent

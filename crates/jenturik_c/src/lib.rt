@@ -13,11 +13,11 @@ ghost use mathlib.Core.Bool.{true};
 ghost use Rattle.rules.specs.Fresh.{fresh};
 ghost use Rattle.rules.specs.Steps.{step, taking, linking, shading, collecting, looking};
 ghost use Rattle.rules.specs.Schedules.{ran, schedule, collects};
-ghost use Rattle.words.specs.Words.{isRecord};
+ghost use Rattle.record_words.specs.Words.{isRecord};
 ghost use Rattle.jenturik_c.specs.Face.{whatOf, toldOf, noRecord, shown, placeOf};
 ghost use Rattle.jenturik_c.specs.Flat.{STEP_WORDS, zeros, kindAt, ofKind, stepAt, stepsOf};
 ghost use Rattle.jenturik_c.specs.Flat.{scheduleOf};
-ghost use Rattle.jenturik_c.specs.Runs.{lastOf};
+ghost use Rattle.jenturik_c.specs.Many.{lastOf};
 ghost use Rattle.jenturik_c.specs.Lent.{kept, tells, facing, runs, facingRun};
 ghost use Rattle.jenturik_c.specs.Lent.{facingLast, Stays};
 ghost use Rattle.base.specs.Lent.{was, is};
@@ -117,7 +117,7 @@ pub extern "C" fn jenturik_fresh(
     left: &mut [u16],
     right: &mut [u16],
     colour: &mut [u8],
-    words: &mut [u32; words::WORDS],
+    words: &mut [u32; record_words::WORDS],
     nodes: u32,
     slots: u32,
 ) -> Told
@@ -128,7 +128,7 @@ pub extern "C" fn jenturik_fresh(
     let made = fresh::fresh(left, right, colour, nodes as usize, slots as usize);
     let rec = made.rec;
     let answer = made.answer;
-    let v = words::words_of(rec);
+    let v = record_words::words_of(rec);
     *words = v;
     tell(answer)
 }
@@ -139,7 +139,7 @@ pub extern "C" fn jenturik_look(
     left: &[u16],
     right: &[u16],
     colour: &[u8],
-    words: &[u32; words::WORDS],
+    words: &[u32; record_words::WORDS],
     slot: u32,
     count: u32,
     word: u32,
@@ -148,11 +148,11 @@ pub extern "C" fn jenturik_look(
         ≡ facing (step (looking (placeOf slot count word))) left right colour words ⌝ }
 {
     let w = *words;
-    if !words::is_record(w) {
+    if !record_words::is_record(w) {
         return no_record();
     }
     let p = Place { slot, count, word };
-    let made = editor::look(left, right, colour, words::record_of(w), p);
+    let made = editor::look(left, right, colour, record_words::record_of(w), p);
     let answer = made.answer;
     tell(answer)
 }
@@ -163,7 +163,7 @@ pub extern "C" fn jenturik_link(
     left: &mut [u16],
     right: &mut [u16],
     colour: &[u8],
-    words: &mut [u32; words::WORDS],
+    words: &mut [u32; record_words::WORDS],
     slot: u32,
     count: u32,
     word: u32,
@@ -178,7 +178,7 @@ pub extern "C" fn jenturik_link(
     ensures { λ t. ⌜ Stays words ⌝ }
 {
     let w = *words;
-    if !words::is_record(w) {
+    if !record_words::is_record(w) {
         return no_record();
     }
     let p = Place { slot, count, word };
@@ -187,10 +187,10 @@ pub extern "C" fn jenturik_link(
         count: tocount,
         word: toword,
     };
-    let made = editor::link(left, right, colour, words::record_of(w), p, side, q);
+    let made = editor::link(left, right, colour, record_words::record_of(w), p, side, q);
     let rec = made.rec;
     let answer = made.answer;
-    let v = words::words_of(rec);
+    let v = record_words::words_of(rec);
     *words = v;
     tell(answer)
 }
@@ -201,20 +201,20 @@ pub extern "C" fn jenturik_shade(
     left: &[u16],
     right: &[u16],
     colour: &mut [u8],
-    words: &mut [u32; words::WORDS],
+    words: &mut [u32; record_words::WORDS],
 ) -> Told
     ensures { λ t. ⌜ tells t (kept left) (kept right) colour words
         ≡ facing (step shading) left right colour words ⌝ }
     ensures { λ t. ⌜ Stays words ⌝ }
 {
     let w = *words;
-    if !words::is_record(w) {
+    if !record_words::is_record(w) {
         return no_record();
     }
-    let made = editor::shade(left, right, colour, words::record_of(w));
+    let made = editor::shade(left, right, colour, record_words::record_of(w));
     let rec = made.rec;
     let answer = made.answer;
-    let v = words::words_of(rec);
+    let v = record_words::words_of(rec);
     *words = v;
     tell(answer)
 }
@@ -225,7 +225,7 @@ pub extern "C" fn jenturik_take(
     left: &mut [u16],
     right: &mut [u16],
     colour: &mut [u8],
-    words: &mut [u32; words::WORDS],
+    words: &mut [u32; record_words::WORDS],
     slot: u32,
     count: u32,
     word: u32,
@@ -236,14 +236,14 @@ pub extern "C" fn jenturik_take(
     ensures { λ t. ⌜ Stays words ⌝ }
 {
     let w = *words;
-    if !words::is_record(w) {
+    if !record_words::is_record(w) {
         return no_record();
     }
     let p = Place { slot, count, word };
-    let made = take::take(left, right, colour, words::record_of(w), p, side);
+    let made = take::take(left, right, colour, record_words::record_of(w), p, side);
     let rec = made.rec;
     let answer = made.answer;
-    let v = words::words_of(rec);
+    let v = record_words::words_of(rec);
     *words = v;
     tell(answer)
 }
@@ -254,20 +254,20 @@ pub extern "C" fn jenturik_collect(
     left: &mut [u16],
     right: &mut [u16],
     colour: &mut [u8],
-    words: &mut [u32; words::WORDS],
+    words: &mut [u32; record_words::WORDS],
 ) -> Told
     ensures { λ t. ⌜ tells t left right colour words
         ≡ facing (step collecting) left right colour words ⌝ }
     ensures { λ t. ⌜ Stays words ⌝ }
 {
     let w = *words;
-    if !words::is_record(w) {
+    if !record_words::is_record(w) {
         return no_record();
     }
-    let made = collector::collect(left, right, colour, words::record_of(w));
+    let made = collector::collect(left, right, colour, record_words::record_of(w));
     let rec = made.rec;
     let answer = made.answer;
-    let v = words::words_of(rec);
+    let v = record_words::words_of(rec);
     *words = v;
     tell(answer)
 }
@@ -278,7 +278,7 @@ pub extern "C" fn jenturik_collect_many(
     left: &mut [u16],
     right: &mut [u16],
     colour: &mut [u8],
-    words: &mut [u32; words::WORDS],
+    words: &mut [u32; record_words::WORDS],
     n: usize,
 ) -> Last
     ensures { λ r. ⌜ runs (r .done) (r .code) left right colour words
@@ -287,7 +287,7 @@ pub extern "C" fn jenturik_collect_many(
     ensures { λ r. ⌜ Stays words ⌝ }
 {
     let w = *words;
-    if !words::is_record(w) {
+    if !record_words::is_record(w) {
         return Last {
             done: 0,
             what: 0,
@@ -295,10 +295,10 @@ pub extern "C" fn jenturik_collect_many(
             node: 0,
         };
     }
-    let many = batch::collect_many(left, right, colour, words::record_of(w), n);
+    let many = batch::collect_many(left, right, colour, record_words::record_of(w), n);
     let rec = many.rec;
     let answer = many.answer;
-    let v = words::words_of(rec);
+    let v = record_words::words_of(rec);
     *words = v;
     Last {
         done: many.done,
@@ -413,7 +413,7 @@ pub extern "C" fn jenturik_schedule(
     left: &mut [u16],
     right: &mut [u16],
     colour: &mut [u8],
-    words: &mut [u32; words::WORDS],
+    words: &mut [u32; record_words::WORDS],
     steps: &[u32],
 ) -> Done
     ensures { λ r. ⌜ runs (r .done) (r .code) left right colour words
@@ -421,12 +421,12 @@ pub extern "C" fn jenturik_schedule(
     ensures { λ r. ⌜ Stays words ⌝ }
 {
     let w = *words;
-    if !words::is_record(w) {
+    if !record_words::is_record(w) {
         return Done { done: 0, code: 2 };
     }
-    let ran = schedule_of(steps, left, right, colour, words::record_of(w));
+    let ran = schedule_of(steps, left, right, colour, record_words::record_of(w));
     let rec = ran.rec;
-    let v = words::words_of(rec);
+    let v = record_words::words_of(rec);
     *words = v;
     Done {
         done: ran.done,

@@ -4,7 +4,7 @@ use Prim.Native.Nat.{ℕ, _-_}
 use mathlib.Core.List.{List, [], _∷_, _++_}
 use lib.ListN.{length, getD, take, drop, replicate}
 use lib.Dec.{leb, eqb}
-use Rattle.rules.specs.Table.{State, Outcome, state}
+use Rattle.rules.specs.Table.{State, Outcome, state, mostNodes}
 use Rattle.rules.specs.Fresh.{fresh}
 use Rattle.rules.specs.Records.{position, freshRecord}
 use Rattle.rules.specs.Steps.{step, codeOf, nodeOf}
@@ -78,4 +78,4 @@ opened Unreadable l k c = failed 10 l k c
 
 -- the entries of the program's own tables
 abbrev pub entries : ℕ
-entries = 4096
+entries = mostNodes

@@ -3,13 +3,13 @@ use mathlib.Core.Path.{refl, ap}
 use Rattle.rules.specs.Steps.{run}
 use Rattle.rules.specs.Schedules.{collects}
 use Rattle.rules.specs.declared.Record.{Record}
-use Rattle.schedule.proofs.Runs.{schedule-run}
+use Rattle.schedule.proofs.PartOfRun.{schedule-run}
 use Rattle.runs.specs.Start.{by-fresh}
-use Rattle.promises.specs.Runs.{Lent, lend, stateOf, Demand-calls}
+use Rattle.promises.specs.CallRuns.{Lent, lend, stateOf, Demand-calls}
 use Rattle.promises.specs.Calls.{Call, Fresh, Look, Link, Shade, Take, Collect, Any}
 use Rattle.promises.specs.Calls.{CollectInPlace, Schedule, CollectMany}
 use Rattle.promises.specs.Calls.{left-by, deedOf, rattle}
-use Rattle.promises.proofs.Runs as R
+use Rattle.promises.proofs.CallRuns as R
 
 -- any record will do
 abbrev Fit : Record → Type 0

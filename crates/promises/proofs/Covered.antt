@@ -13,7 +13,7 @@ use Rattle.editor.proofs.shade.Reads as shade
 use Rattle.take.proofs.take.Reads as take
 use Rattle.collector.proofs.collect.Reads as collect
 use Rattle.calls.proofs.step.Reads as step
-use Rattle.promises.specs.Runs.{lent, lend}
+use Rattle.promises.specs.CallRuns.{lent, lend}
 use Rattle.promises.specs.Calls.{Fresh, Look, Link, Shade, Take, Collect, Any}
 use Rattle.promises.specs.Calls.{left-by, rattle}
 

@@ -5,7 +5,7 @@ use mathlib.Core.List.{List}
 use Prim.Native.Nat.{ℕ}
 use denote.Ref.{now}
 use Rattle.jenturik_c.specs.Face.{Faced, faced, placeOf}
-use Rattle.jenturik_c.specs.Runs.{facedRun, lastOf}
+use Rattle.jenturik_c.specs.Many.{facedRun, lastOf}
 use Rattle.jenturik_c.specs.declared.Told.{Told}
 use Rattle.jenturik_c.proofs.jenturik_fresh.Reads as c-fresh
 use Rattle.jenturik_c.proofs.jenturik_look.Reads as c-look
@@ -17,7 +17,7 @@ use Rattle.jenturik_c.proofs.jenturik_collect_many.Reads as c-many
 use Rattle.jenturik_c.proofs.jenturik_schedule.Reads as c-schedule
 use Rattle.bench_steps.specs.Steps.{stepped}
 use Rattle.bench_steps.proofs.jenturik_steps.Reads as c-steps
-use Rattle.promises.specs.Runs.{lent}
+use Rattle.promises.specs.CallRuns.{lent}
 use Rattle.promises.specs.Words.{Fresh, Look, Link, Shade, Take, Collect}
 use Rattle.promises.specs.Words.{CollectMany, Schedule, left-in, left-in-run, left-by, words}
 use Rattle.promises.proofs.Determined.{determined}

@@ -11,9 +11,9 @@ use borrow.Fn.World.{ArgsD, ResD}
 use borrow.Fn.Read.{all-models, no-know, r-last}
 use Rattle.rules.specs.Table.{outcome}
 use Rattle.rules.specs.Schedules.{ran}
-use Rattle.frame.proofs.collect_in_place as frame
+use Rattle.in_place.proofs.collect_in_place as frame
 use Rattle.schedule.proofs.schedule as sched
-use Rattle.promises.specs.Runs.{lent}
+use Rattle.promises.specs.CallRuns.{lent}
 use Rattle.promises.specs.Calls.{CollectInPlace, Schedule, left-by, rattle}
 use Rattle.promises.proofs.Determined.{determined}
 use Rattle.promises.proofs.Covered.{lent-by, lent-by-run}

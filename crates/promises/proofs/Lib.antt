@@ -1,7 +1,7 @@
 pub mod Determined
 pub mod Figures
 pub mod Wrong
-pub mod Runs
+pub mod CallRuns
 pub mod Calls
 pub mod Words
 pub mod Covered

@@ -3,7 +3,7 @@ use mathlib.Core.Path.{_≡_}
 use denote.Ref.{now}
 use Rattle.batch.specs.Last.{many}
 use Rattle.batch.proofs.collect_many.Reads as collect-many
-use Rattle.promises.specs.Runs.{lent}
+use Rattle.promises.specs.CallRuns.{lent}
 use Rattle.promises.specs.Calls.{CollectMany, left-by, rattle}
 use Rattle.promises.proofs.Determined.{determined}
 use Rattle.promises.proofs.Covered.{lent-by-run}

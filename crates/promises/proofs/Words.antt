@@ -7,22 +7,22 @@ use mathlib.Core.Path.{_≡_, refl, sym, ap, subst}
 use native.Mathlib.Omega.{arith}
 use lib.ListN.{take}
 use Rattle.base.proofs.Tests.{pick-yes}
-use Rattle.rules.specs.Table.{State}
+use Rattle.rules.specs.Table.{State, mostNodes, mostSlots}
 use Rattle.rules.specs.Records.{position}
 use Rattle.rules.specs.Check.{bound}
 use Rattle.rules.specs.Steps.{run, taking, linking, shading, collecting, looking}
 use Rattle.rules.specs.Schedules.{Followed, schedule, collects}
-use Rattle.rules.specs.Facts.{Inside, Owable}
+use Rattle.rules.specs.Facts.{InRange, Owable}
 use Rattle.rules.specs.declared.Step.{Step}
 use Rattle.rules.specs.declared.Phase.{Phase}
 use Rattle.rules.specs.declared.Phase.the-variants.{Roots, Scan, Left, Right, Black, Append}
 use Rattle.rules.specs.declared.Owed.{Owed}
 use Rattle.rules.specs.declared.Owed.the-variants.{Nothing, Node}
-use Rattle.rules.proofs.Good.{good, inside, owable}
+use Rattle.rules.proofs.Checked.{good, inside, owable}
 use Rattle.rules.proofs.Sizes.{square}
-use Rattle.words.specs.Words.{kOf, owedOf, wordsOf, isRecord}
-use Rattle.words.proofs.RoundTrip.{record-back}
-use Rattle.words.proofs.Widths.{words-are, tag-most, owes-most}
+use Rattle.record_words.specs.Words.{kOf, owedOf, wordsOf, isRecord}
+use Rattle.record_words.proofs.RoundTrip.{record-back}
+use Rattle.record_words.proofs.Widths.{words-are, tag-most, owes-most}
 use Rattle.jenturik_c.specs.Face.{face}
 use Rattle.jenturik_c.specs.Flat.{stepsOf, scheduleOf}
 use Rattle.jenturik_c.proofs.Kept.{Follows, schedule-follows, words-follow, done-kept}
@@ -30,14 +30,14 @@ use Rattle.runs.specs.Runs.{Count}
 use Rattle.runs.specs.Start.{by-fresh}
 use Rattle.runs.proofs.Sound.{checked}
 use Rattle.runs.proofs.Counting.{Carried}
-use Rattle.promises.specs.Runs.{Lent, lend, stateOf, Demand-calls}
+use Rattle.promises.specs.CallRuns.{Lent, lend, stateOf, Demand-calls}
 use Rattle.promises.specs.Words.{left-in, left-in-run, once, many, left-by, deedOf, words}
 use Rattle.promises.specs.Words.{Call, Fresh, Look, Link, Shade, Take, Collect}
 use Rattle.promises.specs.Words.{CollectMany, Schedule}
-use Rattle.promises.proofs.Runs as R
+use Rattle.promises.proofs.CallRuns as R
 
 -- numbers inside a table have their widths
-phase-fits : (m r : ℕ) (p : Phase) → m ≤ 4096 → r ≤ 64 → Inside m r p
+phase-fits : (m r : ℕ) (p : Phase) → m ≤ mostNodes → r ≤ mostSlots → InRange m r p
     → (position p ≤ 65535) × (kOf p ≤ 65535)
 phase-fits m r (Roots i) a b h = omega arith
 phase-fits m r (Scan i k) a b h = omega arith
@@ -46,11 +46,11 @@ phase-fits m r (Right i) a b h = omega arith
 phase-fits m r (Black i) a b h = omega arith
 phase-fits m r (Append i) a b h = omega arith
 
-owed-fits : (m : ℕ) (o : Owed) → m ≤ 4096 → Owable m o → owedOf o ≤ 65535
+owed-fits : (m : ℕ) (o : Owed) → m ≤ mostNodes → Owable m o → owedOf o ≤ 65535
 owed-fits m Nothing a h = omega arith
 owed-fits m (Node n) a h = omega arith
 
-took-fits : (m r : ℕ) → m ≤ 4096 → r ≤ 64 → bound 2 m r ≤ 4294967295
+took-fits : (m r : ℕ) → m ≤ mostNodes → r ≤ mostSlots → bound 2 m r ≤ 4294967295
 unfolding bound
 took-fits m r a b = omega (arith, square m a)
 

@@ -9,7 +9,7 @@ use Rattle.rules.specs.Schedules.{schedule, collects}
 use Rattle.rules.specs.declared.Record.{Record}
 use Rattle.rules.specs.declared.Place.{Place}
 use Rattle.rules.specs.declared.Step.{Step}
-use Rattle.promises.specs.Runs.{lend, Deed, starts, makes, Face}
+use Rattle.promises.specs.CallRuns.{lend, Deed, starts, makes, Face}
 
 pub data Call : Type 0 where
   -- fresh::fresh, given M and R
@@ -24,7 +24,7 @@ pub data Call : Type 0 where
   Collect : Call
   -- calls::step
   Any : Step → Call
-  -- frame::collect_in_place
+  -- in_place::collect_in_place
   CollectInPlace : Call
   -- schedule::schedule
   Schedule : List Step → Call

@@ -1,3 +1,3 @@
-pub mod Runs
+pub mod CallRuns
 pub mod Calls
 pub mod Words

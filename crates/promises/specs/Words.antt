@@ -8,11 +8,11 @@ use Rattle.rules.specs.Steps.{step, taking, linking, shading, collecting, looki
 use Rattle.rules.specs.Schedules.{Followed, schedule, collects}
 use Rattle.rules.specs.declared.Place.{Place}
 use Rattle.rules.specs.declared.Step.{Step}
-use Rattle.words.specs.Words.{recordOf}
+use Rattle.record_words.specs.Words.{recordOf}
 use Rattle.jenturik_c.specs.Face.{Faced, face, shown}
 use Rattle.jenturik_c.specs.Flat.{stepsOf, scheduleOf}
-use Rattle.jenturik_c.specs.Runs.{FacedRun, faceRun}
-use Rattle.promises.specs.Runs.{Lent, lent, Deed, starts, makes, Face}
+use Rattle.jenturik_c.specs.Many.{FacedRun, faceRun}
+use Rattle.promises.specs.CallRuns.{Lent, lent, Deed, starts, makes, Face}
 
 -- jenturik_fresh, jenturik_look, .., given what C gives; a schedule as words
 pub data Call : Type 0 where

@@ -1,5 +1,5 @@
 pub mod Sizes
-pub mod Good
+pub mod Checked
 pub mod Laws
 pub mod Walks
 pub mod Refused

@@ -14,13 +14,13 @@ abbrev pub manySteps : ℕ
 manySteps = 20000000
 
 -- a position inside its phase
-abbrev pub Inside : ℕ → ℕ → Phase → Type 0
-Inside m r (Roots i) = i ≤ r + 1
-Inside m r (Scan i k) = (i < m) × ((1 ≤ k) × (k ≤ m))
-Inside m r (Left i) = i < m
-Inside m r (Right i) = i < m
-Inside m r (Black i) = i < m
-Inside m r (Append i) = i < m
+abbrev pub InRange : ℕ → ℕ → Phase → Type 0
+InRange m r (Roots i) = i ≤ r + 1
+InRange m r (Scan i k) = (i < m) × ((1 ≤ k) × (k ≤ m))
+InRange m r (Left i) = i < m
+InRange m r (Right i) = i < m
+InRange m r (Black i) = i < m
+InRange m r (Append i) = i < m
 
 -- nothing, or a node of the table
 abbrev pub Owable : ℕ → Owed → Type 0
@@ -32,7 +32,7 @@ pub record Tells (x : Record) (b : ℕ) : Type 0 where
   pub in-use : x .inuse ≤ x .m
   pub took : x .took ≤ b
 
-pub record Good (ll rl cl : ℕ) (x : Record) : Type 0 where
+pub record Checked (ll rl cl : ℕ) (x : Record) : Type 0 where
   pub m-low : 3 ≤ x .m
   pub m-high : x .m ≤ mostNodes
   pub r-low : 1 ≤ x .r

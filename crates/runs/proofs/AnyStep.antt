@@ -18,13 +18,13 @@ use S.{Tick, goes, ends, CStep}
 use Rattle.theory.proofs.Keep.{keep-editor}
 use Rattle.runs.specs.Runs.{after, collector, kind, firstAppend, lastAppend, completes, marks}
 use Rattle.runs.specs.Runs.{Count, going, closing, told}
-use Rattle.runs.specs.Demand.{Mild}
+use Rattle.runs.specs.Demand.{Allowed}
 use Rattle.runs.proofs.Picks.{if-no}
-use Rattle.runs.proofs.Codes.{mild, mild-first}
+use Rattle.runs.proofs.Codes.{allowed, allowed-first}
 use Rattle.runs.proofs.Tables.{rows-kept}
 use Rattle.runs.proofs.Bill.{bill-edit}
 use Rattle.runs.proofs.Sound.{abs, top, Sound, sizes, Ready, ready}
-use Rattle.runs.proofs.Made.{act, named, counts, Ticked, on, over, Made}
+use Rattle.runs.proofs.Simulates.{act, named, counts, Ticked, on, over, Simulates}
 use Rattle.runs.proofs.AppendStep.{collect-made, sound-made}
 use Rattle.runs.proofs.Edited.{Edited, refused, made-there}
 use Rattle.runs.proofs.LinkStep.{look-edited, link-edited}
@@ -62,8 +62,9 @@ edits-is {E} c s {ph} g h =
     (split (Edited E s ph) _ _ _ (λ a. look-edited g _)
     (λ a. refused (g .fits) _ 0 unreadable)))))
   where
-    unreadable : Mild (first (check s ∷ 10 ∷ []))
-    unreadable = mild-first (check s ∷ 10 ∷ []) (rw (← g .good) (mild refl), (mild refl, tt))
+    unreadable : Allowed (first (check s ∷ 10 ∷ []))
+    unreadable =
+        allowed-first (check s ∷ 10 ∷ []) (rw (← g .good) (allowed refl), (allowed refl, tt))
 
 pub stepped : {E : ℕ} (c : Step) (s : State) → Sound E s → Stepped E c s
 unfolding completes marks
@@ -72,7 +73,7 @@ stepped {E} c s g = go (collector c) refl
     go : (b : Bool) → collector c ≡ b → Stepped E c s
     go true h = by (k .made) (k .ticked)
       where
-        k : Made E s (s .rec .phase) (step c s)
+        k : Simulates E s (s .rec .phase) (step c s)
         k = rw (collects-is c s h) (collect-made g)
 
         done : {t : Tick} → CStep E (s .rec .m) (top s) (abs E s) (abs E (after c s))

@@ -14,7 +14,7 @@ use Rattle.rules.specs.declared.Place.{Place}
 use Rattle.rules.specs.declared.Owed.{Owed}
 use Rattle.rules.specs.declared.Owed.the-variants.{Nothing, Node}
 use Rattle.theory.specs.Free.{Mem}
-use Rattle.runs.specs.Demand.{never, Mild}
+use Rattle.runs.specs.Demand.{never, Allowed}
 
 abbrev among : ℕ → List ℕ → Bool
 among n [] = false
@@ -29,29 +29,30 @@ not-among n (c ∷ cs) q (inl e) = true≢false (or-first (eqb n c) (among n cs)
 not-among n (c ∷ cs) q (inr m) = not-among n cs (or-second (eqb n c) (among n cs) q) m
 
 -- of a code that is a numeral the test is `refl`
-pub mild : {code : ℕ} → among code never ≡ false → Mild code
-mild {code} q = not-among code never q
+pub allowed : {code : ℕ} → among code never ≡ false → Allowed code
+allowed {code} q = not-among code never q
 
--- each of the codes is mild
-abbrev pub Milds : List ℕ → Type 0
-Milds [] = Unit {0}
-Milds (c ∷ cs) = Mild c × Milds cs
+-- each of the codes is allowed
+abbrev pub AllAllowed : List ℕ → Type 0
+AllAllowed [] = Unit {0}
+AllAllowed (c ∷ cs) = Allowed c × AllAllowed cs
 
-pub mild-first : (cs : List ℕ) → Milds cs → Mild (first cs)
+pub allowed-first : (cs : List ℕ) → AllAllowed cs → Allowed (first cs)
 unfolding first
-mild-first [] h = mild refl
-mild-first (c ∷ cs) h = split Mild _ _ _ (λ q. mild-first cs (h .1)) (λ q. h .0)
+allowed-first [] h = allowed refl
+allowed-first (c ∷ cs) h = split Allowed _ _ _ (λ q. allowed-first cs (h .1)) (λ q. h .0)
 
-pub mild-place : (e r : ℕ) (p : Place) → Mild (placeCode e r p)
+pub allowed-place : (e r : ℕ) (p : Place) → Allowed (placeCode e r p)
 unfolding placeCode
-mild-place e r p =
-    split Mild _ _ _ (λ a. split Mild _ _ _ (λ b. mild refl) (λ b. mild refl)) (λ a. mild refl)
+allowed-place e r p =
+    split Allowed _ _ _ (λ a. split Allowed _ _ _ (λ b. allowed refl) (λ b. allowed refl))
+    (λ a. allowed refl)
 
-pub mild-side : (e side : ℕ) → Mild (sideCode e side)
+pub allowed-side : (e side : ℕ) → Allowed (sideCode e side)
 unfolding sideCode
-mild-side e side = split Mild _ _ _ (λ a. mild refl) (λ a. mild refl)
+allowed-side e side = split Allowed _ _ _ (λ a. allowed refl) (λ a. allowed refl)
 
-pub mild-owed : (o : Owed) → Mild (owedCode o)
+pub allowed-owed : (o : Owed) → Allowed (owedCode o)
 unfolding owedCode
-mild-owed Nothing = mild refl
-mild-owed (Node n) = mild refl
+allowed-owed Nothing = allowed refl
+allowed-owed (Node n) = allowed refl

@@ -17,7 +17,7 @@ use Rattle.theory.proofs.Invariant.{Sizes, Inv}
 use Rattle.runs.specs.Runs.{Some, now, later, after, collectorSteps, Completes, Appends}
 use Rattle.runs.specs.Runs.{Count, counted, told, count}
 use Rattle.runs.proofs.Sound.{abs, Sound, sizes, cycle-goes}
-use Rattle.runs.proofs.Made.{act, counts}
+use Rattle.runs.proofs.Simulates.{act, counts}
 use Rattle.runs.proofs.Edited.{made-there}
 use Rattle.runs.proofs.AnyStep as A
 use A.{Collected, stepped, sound-step}

@@ -12,7 +12,7 @@ use Rattle.theory.proofs.Cycle.{note, Rest, last-step, collector, editor}
 use Rattle.runs.specs.Runs.{after, completes, blackens, begun}
 use Rattle.runs.specs.Start.{Start}
 use Rattle.runs.proofs.Sound.{Sound, abs, top}
-use Rattle.runs.proofs.Made.{act}
+use Rattle.runs.proofs.Simulates.{act}
 use Rattle.runs.proofs.Edited.{made-there}
 use Rattle.runs.proofs.AnyStep.{Stepped, goes-on, closes, edits, stepped, sound-step}
 use Rattle.runs.proofs.Counting.{carried-run}

@@ -19,12 +19,12 @@ use Rattle.theory.proofs.Facts as F
 use Rattle.theory.proofs.Marking.{none≢some}
 use Rattle.theory.proofs.Invariant.{Inv, Free, at-roots}
 use Rattle.runs.specs.Runs.{after, collector, Count, begun}
-use Rattle.runs.specs.Demand.{RootReaches, SlotReaches, Mild, FreeNodes, Demand, Demand-3}
-use Rattle.runs.proofs.Codes.{mild}
+use Rattle.runs.specs.Demand.{RootReaches, SlotReaches, Allowed, FreeNodes, Demand, Demand-3}
+use Rattle.runs.proofs.Codes.{allowed}
 use Rattle.runs.proofs.Tables.{Rows, reach-from}
 use Rattle.runs.proofs.Phases.{view, is-append}
 use Rattle.runs.proofs.Sound.{owes, stateIn, top, Sound, sizes, Ready, ready}
-use Rattle.runs.proofs.Made.{named}
+use Rattle.runs.proofs.Simulates.{named}
 use Rattle.runs.proofs.Edited.{made-there, walked, walked-at}
 use Rattle.runs.proofs.AnyStep.{Collected, Stepped, goes-on, closes, edits, stepped}
 use Rattle.runs.proofs.Counting.{Carried, carried-run, ends-within, appended-within}
@@ -64,12 +64,12 @@ module _ {E : ℕ} {s : State} (g : Sound E s) where
       go (closes e a k) = k .code
       go (edits e q k) = absurd (true≢false (sym h ∙ q))
 
-  answers : (c : Step) → Mild (codeOf (step c s .answer))
+  answers : (c : Step) → Allowed (codeOf (step c s .answer))
   answers c = go (stepped c s g)
     where
-      go : Stepped E c s → Mild (codeOf (step c s .answer))
-      go (goes-on e a k) = rw (k .code) (mild refl)
-      go (closes e a k) = rw (k .code) (mild refl)
+      go : Stepped E c s → Allowed (codeOf (step c s .answer))
+      go (goes-on e a k) = rw (k .code) (allowed refl)
+      go (closes e a k) = rw (k .code) (allowed refl)
       go (edits e q k) = k .code
 
   leaves : (c : Step) → collector c ≡ true → (side x : ℕ) → SlotReaches s x
@@ -150,7 +150,7 @@ demand {E} {m} {r} {n} {s} v = record {
   nodes = v .nodes;
   slots = v .slots;
   accepted = λ c h. omega (arith, accepts (v .sound) c h);
-  mild = answers (v .sound);
+  allowed = answers (v .sound);
   unchanged = leaves (v .sound);
   spares = λ c x q a. appends-garbage (v .sound) c x q (reach-from (λ n h. omega arith) a);
   garbage = appends-garbage (v .sound);

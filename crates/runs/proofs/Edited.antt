@@ -1,6 +1,6 @@
 -- What is said of an outcome of an editor's step: it is a step of the theory's editor, or changes
--- nothing, and its code is mild. Codes before the walk, and the walk: from a ready state they
--- refuse mildly, or the place names a node.
+-- nothing, and its code is allowed. Codes before the walk, and the walk: from a ready state they
+-- refuse with an allowed code, or the place names a node.
 use Prim.Native.Nat.{ℕ, zero, suc, _/_, _%_}
 use mathlib.Core.Bool.{true, false}
 use mathlib.Core.Path.{_≡_, refl, sym}
@@ -30,11 +30,11 @@ use Rattle.theory.proofs.Marking.{none≢some}
 use Rattle.theory.proofs.Steps as S
 use S.{other, Deed, nothing, EStep, rest}
 use Rattle.runs.specs.Runs.{kind, blackens}
-use Rattle.runs.specs.Demand.{Mild}
+use Rattle.runs.specs.Demand.{Allowed}
 use Rattle.runs.proofs.Picks.{if-no}
-use Rattle.runs.proofs.Codes.{mild, Milds, mild-first}
-use Rattle.runs.proofs.Sound.{owes, stateIn, abs, top, Fits, Ready}
-use Rattle.runs.proofs.Made.{act, named, counts}
+use Rattle.runs.proofs.Codes.{allowed, AllAllowed, allowed-first}
+use Rattle.runs.proofs.Sound.{owes, stateIn, abs, top, InLimits, Ready}
+use Rattle.runs.proofs.Simulates.{act, named, counts}
 use Rattle.runs.proofs.WorkStep.{good-edge}
 
 -- an editor's step leaves the collector's part of the record
@@ -47,11 +47,11 @@ pub record Same (x y : Record) : Type 0 where
 pub record Edited (E : ℕ) (s : State) (ph : S.Phase) (o : Outcome) : Type 0 where
   pub deed : Deed
   pub made : EStep E (top s) deed (stateIn s ph) (stateIn (o .state) ph)
-  pub code : Mild (codeOf (o .answer))
+  pub code : Allowed (codeOf (o .answer))
   pub named : (x : ℕ) → named (o .answer) ≡ some x → Reach E (Slot (top s)) (edge s) x
   pub appends : act (o .answer) ≡ other
   pub blackens : blackens (o .answer) ≡ false
-  pub fits : Fits E (o .state)
+  pub fits : InLimits E (o .state)
   pub lengths : map length (o .state .edges) ≡ map length (s .edges)
   pub same : Same (s .rec) (o .state .rec)
 
@@ -62,7 +62,7 @@ some-same q = cc
 pub same : (x : Record) (o : Owed) (n : ℕ) → Same x (withLast (withOwed x o) n)
 same x o n = record { m = refl; r = refl; phase = refl; counts = refl }
 
-pub refused : {E : ℕ} {s : State} {ph : S.Phase} → Fits E s → (code node : ℕ) → Mild code
+pub refused : {E : ℕ} {s : State} {ph : S.Phase} → InLimits E s → (code node : ℕ) → Allowed code
     → Edited E s ph (refuse s code node)
 refused {E} {s} f code node h = record {
   deed = nothing;
@@ -78,12 +78,12 @@ refused {E} {s} f code node h = record {
 
 -- the codes given before the walk
 pub unless-edited : {E : ℕ} {s : State} {ph : S.Phase} → Ready E s ph → (cs : List ℕ) (o : Outcome)
-    → Milds cs → (Zeros cs → Edited E s ph o)
+    → AllAllowed cs → (Zeros cs → Edited E s ph o)
     → Edited E s ph (unless (first (check s ∷ cs)) s o)
 unfolding unless
 unless-edited {E} {s} {ph} g cs o h k =
     split (Edited E s ph) _ _ _ (λ q. k (zeros (check s ∷ cs) (sym (eqb-true _ _ q)) .1))
-    (λ q. refused (g .fits) _ 0 (mild-first (check s ∷ cs) (rw (← g .good) (mild refl), h)))
+    (λ q. refused (g .fits) _ 0 (allowed-first (check s ∷ cs) (rw (← g .good) (allowed refl), h)))
 
 pub none-owed : (o : Owed) → 0 ≡ owedCode o → owes o ≡ none
 unfolding owedCode

@@ -1,5 +1,5 @@
--- From a ready state Look and Link each do a step of the theory's editor, or are refused mildly and
--- change nothing.
+-- From a ready state Look and Link each do a step of the theory's editor, or are refused with an
+-- allowed code and change nothing.
 use Prim.Native.Nat.{ℕ, _<_}
 use mathlib.Core.Path.{_≡_, refl, subst}
 use mathlib.Core.Logic.{_≢_}
@@ -18,7 +18,7 @@ use Rattle.theory.proofs.Reaches.{Named, named-reached, slot-named}
 use Rattle.theory.proofs.Steps as S
 use S.{nothing, links, rest}
 use Rattle.theory.proofs.Shapes.{reached-inside}
-use Rattle.runs.proofs.Codes.{mild, mild-place, mild-side, mild-owed}
+use Rattle.runs.proofs.Codes.{allowed, allowed-place, allowed-side, allowed-owed}
 use Rattle.runs.proofs.Tables.{EdgeMoved, edge-moved}
 use Rattle.runs.proofs.Sound.{owes, top, Ready, sizes}
 use Rattle.runs.proofs.Edited.{some-same, Edited, same, refused, unless-edited, none-owed}
@@ -28,11 +28,11 @@ module _ {E : ℕ} {s : State} {ph : S.Phase} (g : Ready E s ph) where
   pub look-edited : (p : Place) → Edited E s ph (look p s)
   unfolding look
   look-edited p =
-      unless-edited g _ _ (mild-place (sides s) (s .rec .r) p, tt)
+      unless-edited g _ _ (allowed-place (sides s) (s .rec .r) p, tt)
       (λ z. arrived g _ (walked g p (z .0)) (λ n a. record {
         deed = nothing;
         made = rest;
-        code = mild refl;
+        code = allowed refl;
         named = λ x q. subst (Reach E (Slot (top s)) (edge s)) (some-same q) a;
         appends = refl;
         blackens = refl;
@@ -57,7 +57,7 @@ module _ {E : ℕ} {s : State} {ph : S.Phase} (g : Ready E s ph) where
   unfolding depart
   departed p go z k =
       arrived g _ (walked g p z) (λ n a. split (Edited E s ph) _ _ _
-      (λ e. refused (g .fits) 8 0 (mild refl)) (λ e. k n (slot-named a) (eqb-false n 0 e)))
+      (λ e. refused (g .fits) 8 0 (allowed refl)) (λ e. k n (slot-named a) (eqb-false n 0 e)))
 
   linked : (side n : ℕ) (q : Place) → side < E → 0 ≡ placeCode (sides s) (s .rec .r) q
       → owes (s .rec .owed) ≡ none → Named E (top s) (edge s) n → n ≢ 0
@@ -69,7 +69,7 @@ module _ {E : ℕ} {s : State} {ph : S.Phase} (g : Ready E s ph) where
         made =
             rw (o, em .colour) (S.link record
             { side = h; source = a; present = n0; target = slot-named b; moved = em .moved });
-        code = mild refl;
+        code = allowed refl;
         named = λ x q. subst (Reach E (Slot (top s)) (edge s)) (some-same q) b;
         appends = refl;
         blackens = refl;
@@ -82,10 +82,10 @@ module _ {E : ℕ} {s : State} {ph : S.Phase} (g : Ready E s ph) where
   unfolding link
   link-edited p side q =
       unless-edited g _ _ (
-        mild-side (sides s) side,
+        allowed-side (sides s) side,
         (
-          mild-place (sides s) (s .rec .r) p,
-          (mild-place (sides s) (s .rec .r) q, (mild-owed (s .rec .owed), tt)),
+          allowed-place (sides s) (s .rec .r) p,
+          (allowed-place (sides s) (s .rec .r) q, (allowed-owed (s .rec .owed), tt)),
         ),
       )
       (λ z. departed p _ (z .1 .0) (λ n a n0. linked side n q

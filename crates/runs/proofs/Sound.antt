@@ -13,11 +13,11 @@ use lib.Dec.{eqb}
 use Rattle.base.specs.Choice.{every}
 use Rattle.base.proofs.Tests.{lt-yes, le-yes, eq-yes, eq-no, or-first, or-skip, not-is, every-skip}
 use Rattle.base.proofs.Tests.{every-last, pick-yes, tests}
-use Rattle.rules.specs.Table.{State, edge, colourOf}
+use Rattle.rules.specs.Table.{State, edge, colourOf, mostNodes, mostSlots}
 use Rattle.rules.specs.Check.{sizeOk, phaseOk, owedOk, lastOk, bound, cycleOk, countsOk, recordOk}
 use Rattle.rules.specs.Check.{checkOf, check}
 use Rattle.rules.specs.Facts.{Tells}
-use Rattle.rules.proofs.Good.{tells-ok}
+use Rattle.rules.proofs.Checked.{tells-ok}
 use Rattle.rules.specs.declared.Phase.{Phase}
 use Rattle.rules.specs.declared.Owed.{Owed}
 use Rattle.rules.specs.declared.Owed.the-variants.{Nothing, Node}
@@ -61,23 +61,23 @@ abbrev pub BillIn : ℕ → State → Phase → Type 0
 BillIn E s ph = Bill E (s .rec .m) (s .rec .r) (colourOf s) (s .rec .steps) (s .rec .blackened) ph
     (kind E ph)
 
-pub record Fits (E : ℕ) (s : State) : Type 0 where
+pub record InLimits (E : ℕ) (s : State) : Type 0 where
   pub few : Served E
   pub m-low : 3 ≤ s .rec .m
-  pub m-high : s .rec .m ≤ 4096
+  pub m-high : s .rec .m ≤ mostNodes
   pub r-low : 1 ≤ s .rec .r
-  pub r-high : s .rec .r ≤ 64
+  pub r-high : s .rec .r ≤ mostSlots
   pub room : s .rec .r + 2 ≤ s .rec .m
   pub colours : length (s .colour) ≡ s .rec .m
   pub told : Tells (s .rec) (bound E (s .rec .m) (s .rec .r))
 
 pub record Sound (E : ℕ) (s : State) : Type 0 where
   pub rows : Rows E (s .rec .m) (s .edges)
-  pub fits : Fits E s
+  pub fits : InLimits E s
   pub inv : InvIn E s (s .rec .phase)
   pub bill : BillIn E s (s .rec .phase)
 
-pub sizes : {E : ℕ} {s : State} → Fits E s → Sizes E (s .rec .m) (top s)
+pub sizes : {E : ℕ} {s : State} → InLimits E s → Sizes E (s .rec .m) (top s)
 sizes f = record {
   edges =
       omega (arith, f .few);
@@ -94,7 +94,7 @@ all-equal : (E m : ℕ) (bs : List Bool) → true ≡ every bs → true
 all-equal zero m bs h = h
 all-equal (suc E) m bs h = every-skip _ _ _ (eq-yes m m refl) (all-equal E m bs h)
 
-pub size-ok : {E : ℕ} {s : State} → Fits E s → true
+pub size-ok : {E : ℕ} {s : State} → InLimits E s → true
     ≡ sizeOk (s .rec .m) (s .rec .r) (replicate E (s .rec .m)) (length (s .colour))
 unfolding sizeOk
 size-ok {E} {s} f =
@@ -150,7 +150,7 @@ checked {E} {s} g =
 -- what an editor's step needs to know, whatever the collector and its phase
 pub record Ready (E : ℕ) (s : State) (ph : S.Phase) : Type 0 where
   pub rows : Rows E (s .rec .m) (s .edges)
-  pub fits : Fits E s
+  pub fits : InLimits E s
   pub inv : Inv E (s .rec .m) (top s) (stateIn s ph)
   pub good : 0 ≡ check s
 

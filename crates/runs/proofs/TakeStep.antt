@@ -1,5 +1,5 @@
--- From a ready state Shade and Take each do a step of the theory's editor, or are refused mildly
--- and change nothing.
+-- From a ready state Shade and Take each do a step of the theory's editor, or are refused with an
+-- allowed code and change nothing.
 use Prim.Native.Nat.{ℕ, suc, _+_, _≤_, _<_}
 use mathlib.Core.Bool.{false}
 use mathlib.Core.Path.{_≡_, refl, sym, _∙_}
@@ -28,7 +28,7 @@ use Rattle.theory.proofs.Steps as S
 use S.{pays, takes, Takes, shaded, emptied}
 use Rattle.theory.proofs.Facts.{owed-lies, first-lies, next-lies}
 use Rattle.runs.proofs.Picks.{if-yes, if-no}
-use Rattle.runs.proofs.Codes.{mild, mild-place, mild-side, mild-owed}
+use Rattle.runs.proofs.Codes.{allowed, allowed-place, allowed-side, allowed-owed}
 use Rattle.runs.proofs.Tables.{rows-kept, shade-is, length-shade, EdgeMoved, edge-moved}
 use Rattle.runs.proofs.Sound.{owes, top, Ready, sizes}
 use Rattle.runs.proofs.ScanStep.{good-colour}
@@ -47,7 +47,7 @@ good-free m r e (inr q) h =
 module _ {E : ℕ} {s : State} {ph : S.Phase} (g : Ready E s ph) where
   paid : (o : Owed) → owes (s .rec .owed) ≡ owes o → Edited E s ph (pay s o)
   unfolding pay
-  paid Nothing q = refused (g .fits) 6 0 (mild refl)
+  paid Nothing q = refused (g .fits) 6 0 (allowed refl)
   paid (Node t) q = if-no (Edited E s ph) _ _ _ (good-colour (g .fits) (g .inv .hues) t) record {
     deed = pays t;
     made =
@@ -55,7 +55,7 @@ module _ {E : ℕ} {s : State} {ph : S.Phase} (g : Ready E s ph) where
         (S.pay
         (shade-is (s .colour) t
         (omega (arith, g .fits .colours, owed-lies (sizes (g .fits)) (g .inv) q))));
-    code = mild refl;
+    code = allowed refl;
     named = λ x q. absurd (none≢some q);
     appends = refl;
     blackens = refl;
@@ -138,7 +138,7 @@ module _ {E : ℕ} {s : State} {ph : S.Phase} (g : Ready E s ph) where
     took-last f0 y0 = record {
       deed = takes side n f y;
       made = rw (o, colour₃) (S.take (three f0) shaded-f (emptied y0));
-      code = mild refl;
+      code = allowed refl;
       named = λ x q. absurd (none≢some q);
       appends = refl;
       blackens = refl;
@@ -154,7 +154,7 @@ module _ {E : ℕ} {s : State} {ph : S.Phase} (g : Ready E s ph) where
       made =
           rw (o, colour₃) (S.take (three f0) shaded-f
           (shaded y0 (shade-is (shadeIn (s .colour) f) y y-inside)));
-      code = mild refl;
+      code = allowed refl;
       named = λ x q. absurd (none≢some q);
       appends = refl;
       blackens = refl;
@@ -176,7 +176,7 @@ module _ {E : ℕ} {s : State} {ph : S.Phase} (g : Ready E s ph) where
     taken =
         if-no (Edited E s ph) _ _ _ (good-free _ _ f (first-lies (g .inv))
         (omega (arith, g .fits .m-low))) (split (Edited E s ph) _ _ _
-        (λ e. refused (g .fits) 9 0 (mild refl))
+        (λ e. refused (g .fits) 9 0 (allowed refl))
         (λ e. let f0 = eqb-false f 0 e in
         if-no (Edited E s ph) _ _ _ (good-free _ _ y (next-lies (g .inv) f0)
         (omega (arith, g .fits .m-low)))
@@ -189,8 +189,8 @@ module _ {E : ℕ} {s : State} {ph : S.Phase} (g : Ready E s ph) where
   unfolding take
   take-edited p side =
       unless-edited g _ _ (
-        mild-side (sides s) side,
-        (mild-place (sides s) (s .rec .r) p, (mild-owed (s .rec .owed), tt)),
+        allowed-side (sides s) side,
+        (allowed-place (sides s) (s .rec .r) p, (allowed-owed (s .rec .owed), tt)),
       )
       (λ z. departed g p _ (z .1 .0) (λ n a n0. taken side n
       (omega (arith, side-below (sides s) side (z .0), g .rows .count))

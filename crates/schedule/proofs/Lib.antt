@@ -1,2 +1,2 @@
 pub mod Loop
-pub mod Runs
+pub mod PartOfRun

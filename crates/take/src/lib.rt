@@ -11,7 +11,7 @@ ghost use lib.ListN.{length};
 ghost use Rattle.rules.specs.Table.{mostSlots, state, edgeOf};
 ghost use Rattle.rules.specs.Editor.{depart, badFree, relink, takeNext, takeFirst};
 ghost use Rattle.rules.specs.Steps.{step, taking};
-ghost use Rattle.rules.specs.Facts.{Good};
+ghost use Rattle.rules.specs.Facts.{Checked};
 ghost use Rattle.rules.specs.declared.Record.{Record};
 ghost use Rattle.base.specs.Lent.{was, is};
 ghost use Rattle.rules.specs.Lent.{given, leaves};
@@ -60,7 +60,7 @@ fn take_next(
     f: u16,
     g: u16,
 ) -> Made
-    requires { ⌜ Good (length (now left)) (length (now right)) (length (now colour)) x ⌝ }
+    requires { ⌜ Checked (length (now left)) (length (now right)) (length (now colour)) x ⌝ }
     requires { ⌜ n < x .m ⌝ }
     requires { ⌜ f < x .m ⌝ }
     requires { ⌜ side < 2 ⌝ }
@@ -103,7 +103,7 @@ fn take_first(
     f: u16,
     n: u16,
 ) -> Made
-    requires { ⌜ Good (length (now left)) (length (now right)) (length (now colour)) x ⌝ }
+    requires { ⌜ Checked (length (now left)) (length (now right)) (length (now colour)) x ⌝ }
     requires { ⌜ n < x .m ⌝ }
     requires { ⌜ side < 2 ⌝ }
     ensures { λ r. ⌜ leaves r left right colour ≡ takeFirst (given left right colour x) side f n ⌝ }
@@ -127,7 +127,7 @@ fn take_from(
     p: Place,
     side: u32,
 ) -> Made
-    requires { ⌜ Good (length (now left)) (length (now right)) (length (now colour)) x ⌝ }
+    requires { ⌜ Checked (length (now left)) (length (now right)) (length (now colour)) x ⌝ }
     requires { ⌜ p .slot < x .r ⌝ }
     requires { ⌜ side < 2 ⌝ }
     ensures { λ r. ⌜ leaves r left right colour

@@ -13,7 +13,7 @@ use lib.Dec.{ltb, eqb}
 use Rattle.base.specs.Choice.{pick}
 use Rattle.base.proofs.Tests.{split, facts, each}
 use Rattle.text.specs.Grammar.{byteAt, lost, after, isDigit, digitsAt, number, sideAt, side}
-use Rattle.text.specs.Grammar.{lettersAt, turns}
+use Rattle.text.specs.Grammar.{lettersAt, turns, manyWords}
 use Rattle.text.specs.declared.Side.{Side}
 
 pub there : (line : List ℕ) (i : ℕ) → i < length line → getD line i 0 ≡ byteAt line i
@@ -53,7 +53,7 @@ longer more n d h k e s =
     rw (q, pow-suc) (omega arith)
 
 -- a side's part of the word
-pub part : (s bit : ℕ) → s ≤ 1 → bit < 4096 → s * bit < 4096
+pub part : (s bit : ℕ) → s ≤ 1 → bit < manyWords → s * bit < manyWords
 part zero bit h k = rw zero-mul (omega arith)
 part (suc s) bit h k =
     let q : s ≡ 0 = omega arith in
@@ -84,8 +84,8 @@ module _ (line : List ℕ) where
 
   pub letters-turn : (more n word bit i : ℕ) → 0 < more
       → lettersAt line more n word bit i ≡ pick (eqb (sideAt line i .at) lost) (turns n word i)
-      (lettersAt line (more - 1) (n + 1) ((word + sideAt line i .side * bit) % 4096)
-      (bit * 2 % 4096) (sideAt line i .at))
+      (lettersAt line (more - 1) (n + 1) ((word + sideAt line i .side * bit) % manyWords)
+      (bit * 2 % manyWords) (sideAt line i .at))
   unfolding lettersAt
   letters-turn zero n word bit i h = absurd (omega arith)
   letters-turn (suc more) n word bit i h = rw sub-one

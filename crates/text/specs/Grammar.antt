@@ -67,13 +67,17 @@ sideAt line i =
 abbrev pub turns : ℕ → ℕ → ℕ → Turns
 turns n word i = record { count = n; word = word; at = i }
 
+-- one more than the largest word of twelve turns
+abbrev pub manyWords : ℕ
+manyWords = 4096
+
 -- letters, turn 0 first [Places 2]; all are counted, and the word is that of the first twelve
 unfoldable pub lettersAt : List ℕ → ℕ → ℕ → ℕ → ℕ → ℕ → Turns
 lettersAt line zero n word bit i = turns n word i
 lettersAt line (suc more) n word bit i =
     pick (eqb (sideAt line i .at) lost) (turns n word i)
-    (lettersAt line more (n + 1) ((word + sideAt line i .side * bit) % 4096) (bit * 2 % 4096)
-    (sideAt line i .at))
+    (lettersAt line more (n + 1) ((word + sideAt line i .side * bit) % manyWords)
+    (bit * 2 % manyWords) (sideAt line i .at))
 
 -- [Program 5] turns
 unfoldable pub turnsAt : List ℕ → ℕ → Turns

@@ -6,7 +6,7 @@ ghost use Prim.Native.Nat.{_<_};
 ghost use Rattle.text.specs.Grammar.{byteAt, after, isDigit, digitsAt, numberAt, sideAt};
 ghost use Rattle.text.specs.Grammar.{lettersAt, turnsAt, placeAt, takeLine, linkLine};
 ghost use Rattle.text.specs.Grammar.{shadeLine, lookLine, collectLine, firstLine, counted};
-ghost use Rattle.text.specs.Grammar.{read};
+ghost use Rattle.text.specs.Grammar.{longest, read};
 ghost use Rattle.text.specs.Answers.{digitOf, decimal, said, written, put, putAll};
 ghost use Rattle.base.specs.Lent.{was, is};
 
@@ -24,7 +24,7 @@ const DIGITS: u32 = 7;
 const COUNT: u32 = 1000000;
 
 // One more than the largest word of twelve turns.
-const WORDS: u32 = 4096;
+const MANY_WORDS: u32 = 4096;
 
 // What a line says.
 pub enum Said {
@@ -157,7 +157,7 @@ fn side_at(line: &[u8], i: usize) -> Side
 }
 
 fn letters_at(line: &[u8], i: usize) -> Turns
-    ensures { λ r. ⌜ r ≡ lettersAt (was line) 80 0 0 1 i ⌝ }
+    ensures { λ r. ⌜ r ≡ lettersAt (was line) longest 0 0 1 i ⌝ }
 {
     let mut count: u32 = 0;
     let mut word: u32 = 0;
@@ -170,8 +170,8 @@ fn letters_at(line: &[u8], i: usize) -> Turns
             return Turns { count, word, at };
         }
         count += 1;
-        word = (word + s.side * bit) % WORDS;
-        bit = bit * 2 % WORDS;
+        word = (word + s.side * bit) % MANY_WORDS;
+        bit = bit * 2 % MANY_WORDS;
         at = s.at;
         more -= 1;
     }

@@ -26,13 +26,13 @@ use Rattle.transcript.proofs.Kept.{kept, kept-first}
 use Rattle.transcript.proofs.Stands.{stands, begun-apart, over}
 
 -- the buffers have their sizes, N that of the output, with room for n answers more
-pub record Fit (N n : ℕ) (g : Going) : Type 0 where
+pub record RoomFor (N n : ℕ) (g : Going) : Type 0 where
   pub line-size : length (g .line .out) ≡ keeps
   pub line-used : g .line .used ≤ keeps
   pub out-size : length (g .out .out) ≡ N
   pub room : g .out .used + widest * n ≤ N
 
-module _ (N n : ℕ) (g : Going) (f : Fit N (suc n) g) where
+module _ (N n : ℕ) (g : Going) (f : RoomFor N (suc n) g) where
   grown : (t : Line) → Longer (g .out) (printed t) (putAll (g .out) (printed t))
   grown t = let k =
       said-short (t .code) (t .node) in
@@ -40,7 +40,7 @@ module _ (N n : ℕ) (g : Going) (f : Fit N (suc n) g) where
 
   -- a line is answered, and the next begins
   answered-fit : (t : Line) (s : State)
-      → Fit N n
+      → RoomFor N n
       (record { state = s; line = written (g .line .out) 0; out = putAll (g .out) (printed t) })
   answered-fit t s =
       let l = grown t in
@@ -54,11 +54,11 @@ module _ (N n : ℕ) (g : Going) (f : Fit N (suc n) g) where
       }
 
   -- a byte more, where the line has room for it
-  put-fit : (b : ℕ) → Fit N n (gathered g (b ∷ []))
+  put-fit : (b : ℕ) → RoomFor N n (gathered g (b ∷ []))
   unfolding putAll
   put-fit b = go (ltb (g .line .used) keeps) refl
     where
-      go : (t : Bool) → ltb (g .line .used) keeps ≡ t → Fit N n (gathered g (b ∷ []))
+      go : (t : Bool) → ltb (g .line .used) keeps ≡ t → RoomFor N n (gathered g (b ∷ []))
       go true e =
           let h = ltb-true (g .line .used) keeps e in
           let l = put-longer (g .line) b (omega (arith, f .line-size)) in
@@ -111,17 +111,17 @@ all s input = shown s ++ due s input
 
 -- while the first line is awaited the tables have all their entries
 pub record Ready (N n : ℕ) (s : Stand) : Type 0 where
-  pub fit : Fit N n (s .going)
+  pub fit : RoomFor N n (s .going)
   pub left : s .stage ≡ Opening → entries ≤ length (s .left)
   pub right : s .stage ≡ Opening → entries ≤ length (s .right)
   pub colour : s .stage ≡ Opening → entries ≤ length (s .colour)
 
 -- a byte of a later line
-module _ (N n : ℕ) (g : Going) (f : Fit N (suc n) g) (b : ℕ) where
-  next-fit : Fit N n (nextByte g b)
+module _ (N n : ℕ) (g : Going) (f : RoomFor N (suc n) g) (b : ℕ) where
+  next-fit : RoomFor N n (nextByte g b)
   unfolding nextByte ended
   next-fit =
-      split (Fit N n) _ _ _ (λ _. answered-fit N n g f
+      split (RoomFor N n) _ _ _ (λ _. answered-fit N n g f
       (later (read (contents (g .line))) (g .state)) _) (λ _. put-fit N n g f b)
 
   next-all : (input : List ℕ)
@@ -145,7 +145,7 @@ module _ (N n : ℕ) (g : Going) (f : Fit N (suc n) g) (b : ℕ) where
           )
 
 -- a byte of the first line
-gathered-all : (N n : ℕ) (g : Going) → Fit N (suc n) g → (b : ℕ) → eqb b newline ≡ false
+gathered-all : (N n : ℕ) (g : Going) → RoomFor N (suc n) g → (b : ℕ) → eqb b newline ≡ false
     → (input : List ℕ)
     → contents (g .out) ++ opening (contents (putAll (g .line) (b ∷ []))) input
     ≡ contents (g .out) ++ opening (contents (g .line)) (b ∷ input)
@@ -154,9 +154,9 @@ gathered-all N n g f b e input =
     rw (e, kept-byte N n g f b (λ w. opening w input) (λ w. kept-first w input))
 
 -- the first line's newline
-module _ (N n : ℕ) (g : Going) (f : Fit N (suc n) g) (l k c : List ℕ)
+module _ (N n : ℕ) (g : Going) (f : RoomFor N (suc n) g) (l k c : List ℕ)
     (o : Opens (opened (read (contents (g .line))) l k c) (first (read (contents (g .line))))) where
-  begun-fit : Fit N n (begun (stands Opening l k c g) .going)
+  begun-fit : RoomFor N n (begun (stands Opening l k c g) .going)
   unfolding begun
   begun-fit = answered-fit N n g f (opened (read (contents (g .line))) l k c) _
 
@@ -208,7 +208,7 @@ module _ (N n : ℕ) (l k c : List ℕ) (g : Going) (b : ℕ) where
   unfolding eaten pick
   first-byte r = go (eqb b newline) refl
     where
-      f : Fit N (suc n) g
+      f : RoomFor N (suc n) g
       f = r .fit
 
       o : Opens (opened (read (contents (g .line))) l k c) (first (read (contents (g .line))))

@@ -9,8 +9,8 @@ use native.Mathlib.Nat.{sub-zero}
 use Rattle.base.proofs.Tests.{not-no, not-yes}
 use Rattle.rules.specs.Table.{state}
 use Rattle.rules.specs.Check.{bound}
-use Rattle.strides.specs.Leads.{more, Passes}
-use Rattle.batch.proofs.Runs.{refused-end, gone-on, spoilt-end, none-left}
+use Rattle.ahead.specs.Leads.{more, Passes}
+use Rattle.batch.proofs.StrideAndStep.{refused-end, gone-on, spoilt-end, none-left}
 use Rattle.batch.proofs.all_steps.Statement.{statement}
 use Rattle.batch.proofs.all_steps.Tie as tie
 

@@ -4,7 +4,7 @@ use mathlib.Core.Path.{sym, _∙_}
 use native.Mathlib.Omega.{arith}
 use borrow.Author.Needs.{needs}
 use Rattle.rules.specs.Check.{bound}
-use Rattle.rules.proofs.Good.{good}
+use Rattle.rules.proofs.Checked.{good}
 use Rattle.batch.proofs.Last.{scheduled, unscheduled}
 use Rattle.batch.proofs.collect_many.Statement.{statement}
 use Rattle.batch.proofs.collect_many.Tie as tie

@@ -3,7 +3,7 @@
 use mathlib.Core.Path.{refl}
 use native.Mathlib.Omega.{arith}
 use borrow.Author.Needs.{needs}
-use Rattle.strides.proofs.Strides.{stay}
+use Rattle.ahead.proofs.Strides.{stay}
 use Rattle.batch.proofs.stride.Statement.{statement}
 use Rattle.batch.proofs.stride.Tie as tie
 

@@ -3,7 +3,7 @@
 use mathlib.Core.Path.{refl}
 use native.Mathlib.Omega.{arith}
 use borrow.Author.Needs.{needs}
-use Rattle.batch.proofs.Runs.{ready, steps-in, room, stepped}
+use Rattle.batch.proofs.StrideAndStep.{ready, steps-in, room, stepped}
 use Rattle.batch.proofs.stride_and_step.Statement.{statement}
 use Rattle.batch.proofs.stride_and_step.Tie as tie
 

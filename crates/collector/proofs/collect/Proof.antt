@@ -3,7 +3,7 @@
 use mathlib.Core.Path.{sym, _∙_}
 use borrow.Author.Needs.{needs}
 use Rattle.rules.specs.Collector.{collect}
-use Rattle.rules.proofs.Good.{good, inside}
+use Rattle.rules.proofs.Checked.{good, inside}
 use Rattle.rules.proofs.Laws.{unless-done, unless-refused, step-collecting}
 use Rattle.collector.proofs.collect.Statement.{statement}
 use Rattle.collector.proofs.collect.Tie as tie

@@ -5,7 +5,7 @@ use native.Mathlib.Omega.{arith}
 use borrow.Author.Needs.{needs}
 use Rattle.base.proofs.Tests.{zeros}
 use Rattle.rules.specs.Editor.{link}
-use Rattle.rules.proofs.Good.{good}
+use Rattle.rules.proofs.Checked.{good}
 use Rattle.rules.proofs.Laws.{unless-done, unless-refused, step-linking}
 use Rattle.rules.proofs.Walks.{slot-below, side-below}
 use Rattle.places.specs.Sources.{editCode}

@@ -3,7 +3,7 @@
 use mathlib.Core.Path.{sym, _∙_}
 use borrow.Author.Needs.{needs}
 use Rattle.rules.specs.Editor.{pay, shadeOwed}
-use Rattle.rules.proofs.Good.{good, owable}
+use Rattle.rules.proofs.Checked.{good, owable}
 use Rattle.rules.proofs.Laws.{unless-done, unless-refused, step-shading}
 use Rattle.editor.proofs.shade.Statement.{statement}
 use Rattle.editor.proofs.shade.Tie as tie

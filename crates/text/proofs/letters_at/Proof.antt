@@ -4,15 +4,15 @@ use Prim.Native.Nat.{_+_, _≤_, _<_}
 use mathlib.Core.Path.{_≡_, refl, sym, _∙_}
 use native.Mathlib.Omega.{arith}
 use Rattle.base.proofs.Tests.{pick-yes, pick-no, eq-yes, eq-no}
-use Rattle.text.specs.Grammar.{lettersAt}
+use Rattle.text.specs.Grammar.{lettersAt, longest, manyWords}
 use Rattle.text.proofs.Lines.{part, letters-turn, letters-done, side-small}
 use Rattle.text.proofs.letters_at.Statement.{statement}
 use Rattle.text.proofs.letters_at.Tie as tie
 
 abbrev Inv-loop : tie.InvT-loop
 Inv-loop line i count₀ word₀ bit₀ at₀ more₀ count word bit at more =
-    (count + more ≤ 80) × (word < 4096) × (bit < 4096) ×
-    (lettersAt line 80 0 0 1 i ≡ lettersAt line more count word bit at)
+    (count + more ≤ longest) × (word < manyWords) × (bit < manyWords) ×
+    (lettersAt line longest 0 0 1 i ≡ lettersAt line more count word bit at)
 
 abbrev μ-loop : tie.MeasureT-loop
 μ-loop line i count₀ word₀ bit₀ at₀ more₀ count word bit at more = more

@@ -1,0 +1,119 @@
+-- Steps put together to strides.
+use Prim.Native.Nat.{ℕ, suc, _+_, _-_, _≤_, _<_}
+use mathlib.Core.Path.{_≡_, refl, sym, _∙_}
+use mathlib.Core.List.{List}
+use lib.ListN.{length}
+use native.Mathlib.Omega.{arith}
+use Rattle.base.proofs.Tests.{pick-yes, eq-yes, lt-yes, le-yes, every-skip, every-none, each, facts}
+use Rattle.rules.specs.declared.Record.{Record}
+use Rattle.rules.specs.declared.Answer.{Answer}
+use Rattle.rules.specs.Table.{State, Outcome, state, mostNodes}
+use Rattle.rules.specs.Facts.{manySteps}
+use Rattle.rules.specs.Check.{sizeOk, bound, cycleOk}
+use Rattle.rules.specs.Collector.{phaseStep, collect}
+use Rattle.rules.specs.Steps.{step, collecting, codeOf}
+use Rattle.rules.proofs.Checked.{passes, good}
+use Rattle.rules.proofs.Sizes.{square}
+use Rattle.rules.proofs.Laws.{step-collecting, unless-done}
+use Rattle.ahead.specs.Leads.{more, Passes, Room, Leads}
+use Rattle.ahead.proofs.Steady.{count, Kept, kept, passes-again}
+
+-- M, and the lengths of the three slices, which are M
+pub record Sized (m ll rl cl : ℕ) : Type 0 where
+  pub low : 3 ≤ m
+  pub high : m ≤ mostNodes
+  pub lefts : ll ≡ m
+  pub rights : rl ≡ m
+  pub colours : cl ≡ m
+
+pub sized : (l k c : List ℕ) (x : Record) → Passes (state l k c x)
+    → Sized (x .m) (length l) (length k) (length c)
+sized l k c x p =
+    let g = good _ _ _ x (p .code) in
+    record {
+      low = g .m-low;
+      high = g .m-high;
+      lefts = g .lefts;
+      rights = g .rights;
+      colours = g .colours;
+    }
+
+-- no step
+pub stay : (s : State) (d : ℕ) → d ≡ 0 → Passes s → Leads s d s
+stay s d h p =
+    record {
+      m = refl;
+      r = refl;
+      passes = p;
+      same =
+          λ n e a. let z : e + 0 ≡ e = omega arith in let y : 0 + suc n ≡ suc n = omega arith in
+          rw (h, z, y);
+    }
+
+-- a stride and the stride after it
+pub then : (s t u : State) (d e f : ℕ) → f ≡ d + e → Leads s d t → Leads t e u → Leads s f u
+then s t u d e f h p q =
+    record {
+      m = q .m ∙ p .m;
+      r = q .r ∙ p .r;
+      passes = q .passes;
+      same = λ n b a.
+          let i : f + suc n ≡ d + suc (e + n) = omega arith in
+          let j : suc (e + n) ≡ e + suc n = omega arith in
+          let k : b + f ≡ b + d + e = omega arith in
+          rw (i, k) (p .same (e + n) b a ∙ rw j (q .same n (b + d) a));
+    }
+
+-- the same where the steps are counted from a start
+pub on : (s t u : State) (d e f : ℕ) → d ≤ e → e ≤ f → Leads s (e - d) t → Leads t (f - e) u
+    → Leads s (f - d) u
+on s t u d e f h k = then s t u (e - d) (f - e) (f - d) (omega arith)
+
+pub fewer : (x : Record) (cap d : ℕ) → d ≤ cap → Room x cap → Room x d
+fewer x cap d h b = let z = b .steps in record { steps = omega arith }
+
+-- the steps fit
+pub small : (s : State) (cap : ℕ) → Passes s → Room (s .rec) cap → s .rec .steps + cap < manySteps
+unfolding bound sizeOk
+small s cap p b =
+    let g = each _ (passes _ _ (s .rec) (p .code) .0) in
+    let q = square (s .rec .m) (omega facts) in
+    let z = b .steps in
+    omega facts
+
+-- where the record passes, a step is the step of its phase
+pub step-is : (s : State) → Passes s → phaseStep s (s .rec .phase) ≡ step collecting s
+unfolding collect
+step-is s p = rw step-collecting (unless-done _ _ _ _ _ (p .code) refl refl)
+
+pub done-on : (s : State) (o : Outcome) (n e : ℕ) (a : Answer) → o ≡ step collecting s
+    → codeOf (o .answer) ≡ 0
+    → more (suc n) e a s ≡ more n (e + 1) (o .answer) (o .state)
+unfolding more
+done-on s o n e a w z = rw (← w) (sym (pick-yes _ _ _ _ (eq-yes _ _ z) refl))
+
+any-answer : (s : State) (n e : ℕ) (a b : Answer) → more (suc n) e a s ≡ more (suc n) e b s
+unfolding more
+any-answer s n e a b = refl
+
+-- a step that is done and leaves the two counts within their limits
+pub step-on : (s : State) (o : Outcome) → Passes s → o ≡ phaseStep s (s .rec .phase)
+    → codeOf (o .answer) ≡ 0 → o .state .rec .blackened ≤ s .rec .m
+    → o .state .rec .steps < bound (count s) (s .rec .m) (s .rec .r) → Leads s 1 (o .state)
+unfolding cycleOk
+step-on s o p w z k l =
+    let h : Kept s o = rw w (kept s (p .code)) in
+    let b : o .state .rec .blackened ≤ o .state .rec .m = rw (h .rec .m) k in
+    record {
+      m = h .rec .m;
+      r = h .rec .r;
+      passes = record {
+        code =
+            passes-again s (p .code) o h (every-skip _ _ _ (le-yes _ _ b)
+            (every-skip _ _ _ (lt-yes _ _ l) every-none));
+      };
+      same = λ n e a.
+          let i : 1 + suc n ≡ suc (suc n) = omega arith in
+          rw i (done-on s o (suc n) e a (w ∙ step-is s p) z
+          ∙ any-answer (o .state) n (e + 1) (o .answer) a);
+    }

@@ -1,0 +1,70 @@
+-- Steps of Roots and Append that do not end their phase.
+use Prim.Native.Nat.{ℕ, _+_, _≤_, _<_}
+use mathlib.Core.Path.{_≡_, refl, sym, ap, _∙_}
+use mathlib.Core.List.{List}
+use lib.ListN.{getD, set}
+use native.Mathlib.Omega.{arith}
+use Rattle.base.proofs.Tests.{pick-yes, pick-no, lt-no, le-no, eq-yes, eq-no, or-skip}
+use Rattle.rules.specs.declared.Record.{Record}
+use Rattle.rules.specs.declared.Phase.the-variants.{Roots, Append}
+use Rattle.rules.specs.declared.Answer.the-variants.{Shaded, Whitened, Appended}
+use Rattle.rules.specs.Table.{State, state, did, withEdge, cleared, shadeIn}
+use Rattle.rules.specs.Records.{withLast, moved, afterAppend}
+use Rattle.rules.specs.Check.{bound}
+use Rattle.rules.specs.Collector.{shadeStep, afterRoots, append, appendWhite, appendStep, phaseStep}
+use Rattle.rules.proofs.Checked.{good}
+use Rattle.ahead.specs.Leads.{Passes, Leads}
+use Rattle.ahead.proofs.Strides.{step-on}
+
+-- after Append i, before the last node
+onward : (x : Record) (i : ℕ) → i + 1 < x .m → moved x (Append (i + 1)) ≡ afterAppend x i
+unfolding afterAppend
+onward x i h = pick-no _ _ _ _ (eq-no (i + 1) (x .m) (λ z. omega arith)) refl
+
+-- after Roots i, before the last root
+rootward : (m r i : ℕ) → i ≤ r → Roots (i + 1) ≡ afterRoots m r i
+unfolding afterRoots
+rootward m r i h = pick-no _ _ _ _ (eq-no i (r + 1) (λ z. omega arith)) refl
+
+module _ (l r c : List ℕ) (x : Record) (i : ℕ) (p : Passes (state l r c x))
+    (b : x .steps + 1 < bound 2 (x .m) (x .r)) where
+  abbrev s : State
+  s = state l r c x
+
+  -- a root is shaded
+  pub roots : x .phase ≡ Roots i → i ≤ x .r → getD c i 0 ≤ 2
+      → Leads s 1 (state l r (shadeIn c i) (moved x (Roots (i + 1))))
+  unfolding phaseStep shadeStep
+  roots h q v =
+      let g = good _ _ _ x (p .code) in
+      let o = did (Shaded i) (state l r (shadeIn c i) x) (moved x (Roots (i + 1))) in
+      let w : o ≡ phaseStep s (Roots i) = pick-no _ _ _ _ (lt-no 2 (getD c i 0) v)
+      (rw (rootward (x .m) (x .r) i q)) in
+      step-on s o p (w ∙ ap (phaseStep s) (sym h)) refl (g .blackened) b
+
+  -- a black node becomes white
+  pub whitens : x .phase ≡ Append i → i + 1 < x .m → getD c i 0 ≡ 2
+      → Leads s 1 (state l r (set c i 0) (moved x (Append (i + 1))))
+  unfolding phaseStep appendStep
+  whitens h q v =
+      let g = good _ _ _ x (p .code) in
+      let o = did (Whitened i) (state l r (set c i 0) x) (moved x (Append (i + 1))) in
+      let w : o ≡ phaseStep s (Append i) = pick-yes _ _ _ _ (eq-yes _ _ v) (rw (onward x i q)) in
+      step-on s o p (w ∙ ap (phaseStep s) (sym h)) refl (g .blackened) b
+
+  -- a white node goes to the end of the free list
+  pub appends : x .phase ≡ Append i → i + 1 < x .m → getD c i 0 ≡ 0 → x .r + 1 < i
+      → (i ≡ x .last → ⊥)
+      → Leads s 1 (state (set (set l i 0) (x .last) i) (set r i 0) c
+      (moved (withLast x i) (Append (i + 1))))
+  unfolding phaseStep appendStep appendWhite append withEdge cleared
+  appends h q v root last =
+      let g = good _ _ _ x (p .code) in
+      let o =
+      did (Appended i) (state (set (set l i 0) (x .last) i) (set r i 0) c x)
+      (moved (withLast x i) (Append (i + 1))) in
+      let w : o ≡ phaseStep s (Append i) =
+      pick-no _ _ _ _ (eq-no (getD c i 0) 2 (λ z. omega arith)) (pick-yes _ _ _ _ (eq-yes _ _ v)
+      (pick-no _ _ _ _ (or-skip _ _ _ (le-no _ _ root) (eq-no _ _ last))
+      (rw (onward (withLast x i) i q)))) in
+      step-on s o p (w ∙ ap (phaseStep s) (sym h)) refl (g .blackened) b

@@ -1,0 +1,94 @@
+-- A stride and the step after it; and a run, which is as many of these as it takes.
+use Prim.Native.Nat.{ℕ, zero, suc, _+_, _-_, _≤_, _<_}
+use mathlib.Core.Path.{_≡_, refl, sym, ap, _∙_}
+use mathlib.Core.Bool.{false}
+use mathlib.Core.List.{List}
+use lib.ListN.{length}
+use native.Mathlib.Omega.{arith}
+use Rattle.base.proofs.Tests.{pick-no, eq-no}
+use Rattle.rules.specs.declared.Record.{Record}
+use Rattle.rules.specs.declared.Answer.{Answer}
+use Rattle.rules.specs.Table.{State, Outcome, state, refused, refuse}
+use Rattle.rules.specs.Check.{bound, cycleOk, check}
+use Rattle.rules.specs.Collector.{phaseStep, collect}
+use Rattle.rules.specs.Steps.{step, collecting, codeOf}
+use Rattle.rules.specs.Facts.{Checked, InRange}
+use Rattle.rules.proofs.Checked.{good, inside}
+use Rattle.rules.proofs.Refused.{refused-stays}
+use Rattle.rules.proofs.Laws.{step-collecting, unless-refused}
+use Rattle.ahead.specs.Leads.{lasted, more, Passes, Room, Leads}
+use Rattle.ahead.proofs.Steady.{count, Kept, kept, steps-below, passes-again, now-spoilt}
+use Rattle.ahead.proofs.Strides.{step-is, done-on}
+use Rattle.batch.specs.StrideAndStep.{StrideAndStep}
+
+pub ready : (l k c : List ℕ) (y : Record) → Passes (state l k c y)
+    → (Checked (length l) (length k) (length c) y) × (InRange (y .m) (y .r) (y .phase))
+ready l k c y p = (good _ _ _ y (p .code), inside _ _ y (p .code))
+
+pub steps-in : (l k c : List ℕ) (x : Record) (b : ℕ) → Passes (state l k c x) → b
+    ≡ bound 2 (x .m) (x .r) → x .steps < b
+steps-in l k c x b p q = rw q (steps-below _ _ x (p .code))
+
+pub room : (x : Record) (b cap : ℕ) → b ≡ bound 2 (x .m) (x .r) → x .steps + cap < b → Room x cap
+room x b cap q h = record { steps = rw (← q) h }
+
+-- a step that is refused ends the run, and changes nothing
+refused-at : (s : State) (o : Outcome) (n e : ℕ) (a : Answer) → o ≡ step collecting s
+    → (codeOf (o .answer) ≡ 0 → ⊥) → more (suc n) e a s ≡ lasted e (o .answer) s
+unfolding more
+refused-at s o n e a w z = rw (← w) (sym (pick-no _ _ _ _ (eq-no _ _ z) refl))
+
+pub stepped : (b : ℕ) (s t : State) (d : ℕ) (o : Outcome) → b
+    ≡ bound (count s) (s .rec .m) (s .rec .r) → Leads s d t → count t ≡ count s → o
+    ≡ phaseStep t (t .rec .phase)
+    → StrideAndStep b s d (o .answer) (o .state)
+stepped b s t d o q p j w =
+    let k : Kept t o = rw w (kept t (p .passes .code)) in
+    let v = w ∙ step-is t (p .passes) in
+    let u : b ≡ bound (count t) (t .rec .m) (t .rec .r) = rw (p .m, p .r, j) q in
+    record {
+      m = k .rec .m ∙ p .m;
+      r = k .rec .r ∙ p .r;
+      done = λ f n e a. p .same n e a ∙ done-on t o n (e + d) a v f;
+      refused =
+          λ f n e a. p .same n e a ∙ refused-at t o n (e + d) a v f
+          ∙ ap (lasted (e + d) (o .answer)) (sym (rw (← v) at (refused-stays t collecting) f));
+      passes = λ f. record { code = passes-again t (p .passes .code) o k (rw (← u) f) };
+      spoilt = λ f. now-spoilt t (p .passes .code) o k (rw (← u) f);
+    }
+
+pub none-left : (n e : ℕ) (a : Answer) (s : State) → n ≤ 0 → lasted e a s ≡ more n e a s
+unfolding more
+none-left zero e a s h = refl
+none-left (suc n) e a s h = absurd (omega arith)
+
+-- a record that does not pass
+bad-step : (c : ℕ) (s : State) → c ≡ check s → (c ≡ 0 → ⊥) → refuse s c 0 ≡ step collecting s
+unfolding collect
+bad-step c s e f = rw step-collecting (unless-refused _ _ _ _ e f)
+
+-- n more steps from a record with a count past its limit
+spoilt-run : (s : State) → 2 ≡ check s → (n e : ℕ) (a r : Answer) → (0 < n → r ≡ refused 2 0)
+    → (n ≤ 0 → r ≡ a) → lasted e r s ≡ more n e a s
+unfolding more
+spoilt-run s h zero e a r f g = rw (g (omega arith))
+spoilt-run s h (suc n) e a r f g = rw (f (omega arith))
+    (sym (refused-at s (refuse s 2 0) n e a (bad-step 2 s h (λ z. omega arith)) (λ z. omega arith)))
+
+module _ (b : ℕ) (s : State) (d : ℕ) (a : Answer) (t : State) (p : StrideAndStep b s d a t) where
+  pub refused-end : (n e : ℕ) (a₀ : Answer) → d < n → (codeOf a ≡ 0 → ⊥) → lasted (e + d) a t
+      ≡ more n e a₀ s
+  refused-end n e a₀ h f =
+      let z : n ≡ d + suc (n - d - 1) = omega arith in rw z (sym (p .refused f (n - d - 1) e a₀))
+
+  pub gone-on : (n e k : ℕ) (a₀ : Answer) → n ≡ d + suc k → codeOf a ≡ 0 → more n e a₀ s
+      ≡ more k (e + d + 1) a t
+  gone-on n e k a₀ h f = rw h (p .done f k e a₀)
+
+  pub spoilt-end : false ≡ cycleOk (t .rec) b → codeOf a ≡ 0 → (n e : ℕ) (a₀ r : Answer) → d < n - e
+      → (e + d + 1 < n → r ≡ refused 2 0)
+      → (n ≤ e + d + 1 → r ≡ a) → lasted (e + d + 1) r t ≡ more (n - e) e a₀ s
+  spoilt-end h f n e a₀ r l v w =
+      spoilt-run t (p .spoilt h) (n - (e + d + 1)) (e + d + 1) a r (λ q. v (omega arith))
+      (λ q. w (omega arith))
+      ∙ sym (gone-on (n - e) e (n - (e + d + 1)) a₀ (omega arith) f)

@@ -1,0 +1,89 @@
+-- `append_white` meets its contract: where the node is no root and not the end of the free list,
+-- the three writes are what the step of Append writes. Where it is one of them, nothing is done.
+use mathlib.Core.Path.{refl}
+use lib.ListN.{length-set}
+use native.Mathlib.Omega.{arith}
+use borrow.Author.Needs.{needs}
+use Rattle.in_order.proofs.Sweeps.{at, stays, appends}
+use Rattle.in_order.proofs.append_white.Statement.{statement}
+use Rattle.in_order.proofs.append_white.Tie as tie
+
+cast-if1 : tie.Need-cast-if1
+cast-if1 c = search needs
+
+add-if1 : tie.Need-add-if1
+add-if1 c = search needs
+
+returns : tie.Need-returns
+returns c = stays _ _ _ _ _ (c .before .before .pre .0) _ (omega arith)
+
+returns-2 : tie.Need-returns-2
+returns-2 c = stays _ _ _ _ _ (c .before .before .before .pre .0) _ (omega arith)
+
+mul-left : tie.Need-mul-left
+mul-left c = search needs
+
+slice-write-left : tie.Need-slice-write-left
+slice-write-left c = let g = at _ _ _ _ _ (c .before .before .before .pre .0) in omega arith
+
+mul-right : tie.Need-mul-right
+mul-right c = search needs
+
+slice-write-right : tie.Need-slice-write-right
+slice-write-right c = let g = at _ _ _ _ _ (c .before .before .before .pre .0) in omega arith
+
+cast-left : tie.Need-cast-left
+cast-left c = search needs
+
+mul-left-2 : tie.Need-mul-left-2
+mul-left-2 c = let g = at _ _ _ _ _ (c .before .before .before .pre .0) in omega arith
+
+slice-write-left-2 : tie.Need-slice-write-left-2
+slice-write-left-2 c = let g =
+    at _ _ _ _ _ (c .before .before .before .pre .0) in simp length-set (omega arith)
+
+add-t9 : tie.Need-add-t9
+add-t9 c = search needs
+
+add-t8 : tie.Need-add-t8
+add-t8 c = let g = at _ _ _ _ _ (c .before .before .before .before .pre .0) in omega arith
+
+same-length : tie.Need-same-length
+same-length c = search needs
+
+same-length-2 : tie.Need-same-length-2
+same-length-2 c = search needs
+
+returns-3 : tie.Need-returns-3
+returns-3 c = let g =
+    at _ _ _ _ _ (c .before .before .before .before .pre .0) in (
+      omega arith,
+      (
+        omega arith,
+        appends _ _ _ _ _ (c .before .before .before .before .pre .0) _
+            (c .before .before .before .before .pre .1 .0)
+            (c .before .before .before .before .pre .1 .1 .0) refl refl refl
+            (c .before .before .before .before .pre .1 .1 .1) (omega arith) (c .before .if2 .left),
+      ),
+    )
+
+pub append-white-spec : {M : Type 1} → statement M
+append-white-spec =
+    tie.close
+    (tie.spec
+    cast-if1
+    add-if1
+    returns
+    returns-2
+    mul-left
+    slice-write-left
+    mul-right
+    slice-write-right
+    cast-left
+    mul-left-2
+    slice-write-left-2
+    add-t9
+    add-t8
+    same-length
+    same-length-2
+    returns-3)

@@ -1,0 +1,25 @@
+-- Roots and Append on plain numbers.
+use Prim.Native.Nat.{ℕ, _+_, _≤_}
+use mathlib.Core.Path.{_≡_}
+use mathlib.Core.List.{List}
+use Rattle.rules.specs.Table.{state}
+use Rattle.rules.specs.Records.{withPhase, withLast, withSteps}
+use Rattle.rules.specs.declared.Record.{Record}
+use Rattle.rules.specs.declared.Phase.the-variants.{Roots, Append}
+use Rattle.ahead.specs.Leads.{Passes, Room, Leads}
+use Rattle.in_order.specs.declared.AppendAt.{AppendAt}
+
+-- the record d steps after x, which is at Roots i
+unfoldable pub rooted : Record → ℕ → ℕ → Record
+rooted x i d = withPhase (withSteps x (x .steps + d)) (Roots (i + d))
+
+-- d steps from Roots i on, where at most cap may be made, turn the colours c into c′
+pub record Shades (c : List ℕ) (i cap d : ℕ) (c′ : List ℕ) : Type 0 where
+  pub leads :
+      (l k : List ℕ) (x : Record) → Passes (state l k c x) → x .phase ≡ Roots i → Room x cap
+      → i + cap ≤ x .r + 1
+      → Leads (state l k c x) d (state l k c′ (rooted x i d))
+
+-- the record at s
+unfoldable pub swept : Record → AppendAt → Record
+swept x s = withPhase (withLast (withSteps x (x .steps + s .d)) (s .last)) (Append (s .i))

@@ -1,0 +1,194 @@
+// Roots and Append on plain numbers, up to the last step of each.
+use ahead::Ahead;
+use rules::Phase;
+use rules::Record;
+ghost use mathlib.Core.Path.{_≡_};
+ghost use Prim.Native.Nat.{_+_, _-_, _<_, _≤_};
+ghost use lib.ListN.{length, getD};
+ghost use Rattle.rules.specs.Table.{mostNodes, state};
+ghost use Rattle.rules.specs.Facts.{manySteps};
+ghost use Rattle.rules.specs.declared.Phase.the-variants.{Roots, Append};
+ghost use Rattle.ahead.specs.Leads.{Passes, Room, Leads};
+ghost use Rattle.in_order.specs.Sweeping.{rooted, Shades, swept};
+ghost use Rattle.base.specs.Lent.{was, is};
+ghost use Rattle.rules.specs.Lent.{given};
+
+// Where the appending stands: Append i, the end of the free list, and the steps made here.
+struct AppendAt {
+    i: usize,
+    last: usize,
+    d: usize,
+}
+
+// Shades the nodes from i on, at most cap of them, up to a bad colour, and counts them.
+fn shading(colour: &mut [u8], i: usize, cap: usize) -> usize
+    requires { ⌜ i + cap ≤ length (now colour) ⌝ }
+    requires { ⌜ length (now colour) ≤ mostNodes ⌝ }
+    ensures { λ d. ⌜ (d ≤ cap) × Shades (was colour) i cap d (is colour) ⌝ }
+{
+    let mut d = 0;
+    while d < cap {
+        if 2 < colour[i + d] {
+            return d;
+        }
+        table::shade_node(colour, (i + d) as u16);
+        d += 1;
+    }
+    d
+}
+
+fn rooted(mut x: Record, i: usize, d: usize) -> Record
+    requires { ⌜ i + d < mostNodes ⌝ }
+    requires { ⌜ x .steps + d < manySteps ⌝ }
+    ensures { λ r. ⌜ r ≡ rooted x i d ⌝ }
+{
+    x.steps = x.steps + d as u32;
+    x.with_phase(Phase::Roots((i + d) as u16))
+}
+
+fn swept(mut x: Record, s: AppendAt) -> Record
+    requires { ⌜ s .i < mostNodes ⌝ }
+    requires { ⌜ s .last < mostNodes ⌝ }
+    requires { ⌜ x .steps + s .d < manySteps ⌝ }
+    ensures { λ r. ⌜ r ≡ swept x s ⌝ }
+{
+    x.steps = x.steps + s.d as u32;
+    x.last = s.last as u16;
+    x.with_phase(Phase::Append(s.i as u16))
+}
+
+// Roots i: at most cap steps, none of them that of the last root.
+pub fn roots(left: &[u16], right: &[u16], colour: &mut [u8], x: Record, i: u16, cap: usize) -> Ahead
+    requires { ⌜ Passes (state (now left) (now right) (now colour) x) ⌝ }
+    requires { ⌜ Room x cap ⌝ }
+    requires { ⌜ x .phase ≡ Roots i ⌝ }
+    ensures { λ r. ⌜ (r .d ≤ cap) × Leads (given left right colour x) (r .d)
+        (state (was left) (was right) (is colour) (r .rec)) ⌝ }
+{
+    let from = i as usize;
+    let near = ahead::least(cap, x.r as usize + 1 - from);
+    let d = shading(colour, from, near);
+    Ahead {
+        d,
+        rec: rooted(x, from, d),
+    }
+}
+
+// A white node i goes to the end of the free list; s where that is refused.
+fn append_white(
+    left: &mut [u16],
+    right: &mut [u16],
+    colour: &[u8],
+    x: Record,
+    s: AppendAt,
+) -> AppendAt
+    requires { ⌜ Passes (state (now left) (now right) (now colour) (swept x s)) ⌝ }
+    requires { ⌜ Room x (s .d + 1) ⌝ }
+    requires { ⌜ s .i + 1 < x .m ⌝ }
+    requires { ⌜ getD (now colour) (s .i) 0 ≡ 0 ⌝ }
+    ensures { λ r. ⌜ (r .d ≤ s .d + 1) ×
+        ((s .d ≤ r .d) × Leads (given left right colour (swept x s)) (r .d - s .d)
+        (state (is left) (is right) (was colour) (swept x r))) ⌝ }
+{
+    let i = s.i;
+    let last = s.last;
+    if i <= x.r as usize + 1 {
+        return s;
+    }
+    if i == last {
+        return s;
+    }
+    left[i] = 0;
+    right[i] = 0;
+    left[last] = i as u16;
+    AppendAt {
+        i: i + 1,
+        last: i,
+        d: s.d + 1,
+    }
+}
+
+// One step of Append; s where it is refused, or where it is the last node's.
+fn append_one(
+    left: &mut [u16],
+    right: &mut [u16],
+    colour: &mut [u8],
+    x: Record,
+    s: AppendAt,
+) -> AppendAt
+    requires { ⌜ Passes (state (now left) (now right) (now colour) (swept x s)) ⌝ }
+    requires { ⌜ Room x (s .d + 1) ⌝ }
+    ensures { λ r. ⌜ (r .d ≤ s .d + 1) ×
+        ((s .d ≤ r .d) × Leads (given left right colour (swept x s)) (r .d - s .d)
+        (state (is left) (is right) (is colour) (swept x r))) ⌝ }
+{
+    let i = s.i;
+    if i + 1 == x.m as usize {
+        return s;
+    }
+    if colour[i] == 2 {
+        colour[i] = 0;
+        return AppendAt {
+            i: i + 1,
+            last: s.last,
+            d: s.d + 1,
+        };
+    }
+    if colour[i] == 0 {
+        return append_white(left, right, colour, x, s);
+    }
+    s
+}
+
+fn appending(
+    left: &mut [u16],
+    right: &mut [u16],
+    colour: &mut [u8],
+    x: Record,
+    cap: usize,
+    from: AppendAt,
+) -> AppendAt
+    requires { ⌜ Passes (state (now left) (now right) (now colour) (swept x from)) ⌝ }
+    requires { ⌜ Room x cap ⌝ }
+    requires { ⌜ from .d ≤ cap ⌝ }
+    ensures { λ r. ⌜ (r .d ≤ cap) × ((from .d ≤ r .d)
+        × Leads (given left right colour (swept x from)) (r .d - from .d)
+        (state (is left) (is right) (is colour) (swept x r))) ⌝ }
+{
+    let mut s = from;
+    while s.d < cap {
+        let t = append_one(left, right, colour, x, s);
+        if t.d == s.d {
+            return t;
+        }
+        s = t;
+    }
+    s
+}
+
+// Append i: at most cap steps, none of them that of the last node.
+pub fn appends(
+    left: &mut [u16],
+    right: &mut [u16],
+    colour: &mut [u8],
+    x: Record,
+    i: u16,
+    cap: usize,
+) -> Ahead
+    requires { ⌜ Passes (state (now left) (now right) (now colour) x) ⌝ }
+    requires { ⌜ Room x cap ⌝ }
+    requires { ⌜ x .phase ≡ Append i ⌝ }
+    ensures { λ r. ⌜ (r .d ≤ cap) × Leads (given left right colour x) (r .d)
+        (state (is left) (is right) (is colour) (r .rec)) ⌝ }
+{
+    let from = AppendAt {
+        i: i as usize,
+        last: x.last as usize,
+        d: 0,
+    };
+    let s = appending(left, right, colour, x, cap, from);
+    Ahead {
+        d: s.d,
+        rec: swept(x, s),
+    }
+}

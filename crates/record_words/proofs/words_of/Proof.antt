@@ -1,0 +1,42 @@
+-- What the types say of the record's numbers is what `is_record` judges of the words.
+use native.Mathlib.Omega.{arith}
+use borrow.Author.Needs.{needs}
+use Rattle.record_words.proofs.Widths.{words-are, tag-most, owes-most}
+use Rattle.record_words.proofs.words_of.Statement.{statement}
+use Rattle.record_words.proofs.words_of.Tie as tie
+
+tag-requires : tie.Need-tag-requires
+tag-requires c κs = search needs
+
+position-requires : tie.Need-position-requires
+position-requires c κs = search needs
+
+rest-requires : tie.Need-rest-requires
+rest-requires c κs = search needs
+
+owes-requires : tie.Need-owes-requires
+owes-requires c κs = search needs
+
+owed-requires : tie.Need-owed-requires
+owed-requires c κs = search needs
+
+laid-out-requires : tie.Need-laid-out-requires
+laid-out-requires c κs = search needs
+
+returns : tie.Need-returns
+returns c =
+    let at-entry = c .before .before .before .before .before .before in
+    let x = at-entry .args .x in
+    words-are x _ (cc) (omega (arith, tag-most (x .phase), owes-most (x .owed)))
+
+pub words-of-spec : {M : Type 1} → statement M
+words-of-spec =
+    tie.close
+    (tie.spec
+    tag-requires
+    position-requires
+    rest-requires
+    owes-requires
+    owed-requires
+    laid-out-requires
+    returns)

@@ -1,0 +1,261 @@
+// The record as 32-bit words, for callers that have no enums.
+use rules::Owed;
+use rules::Phase;
+use rules::Record;
+ghost use mathlib.Core.Path.{_≡_};
+ghost use mathlib.Core.Bool.{true};
+ghost use mathlib.Core.List.{[], _∷_};
+ghost use lib.Dec.{leb};
+ghost use Rattle.base.specs.Choice.{every};
+ghost use Rattle.record_words.specs.Words.{tagOf, kOf, owesOf, owedOf, laidOut, wordsOf};
+ghost use Rattle.record_words.specs.Words.{phaseOf};
+ghost use Rattle.record_words.specs.Words.{shadeOf, pickedUp, recordOf, within, flagged};
+ghost use Rattle.record_words.specs.Words.{isRecord, Within, WORDS};
+
+// How many words there are, and the number of each, by the names of include/jenturik.h.
+pub const WORDS: usize = 24;
+
+const NODES: usize = 0;
+
+const SLOTS: usize = 1;
+
+const PHASE: usize = 2;
+
+const I: usize = 3;
+
+const K: usize = 4;
+
+const OWES: usize = 5;
+
+const OWED: usize = 6;
+
+const LAST: usize = 7;
+
+const STEPS: usize = 8;
+
+const CYCLES: usize = 9;
+
+const TOOK: usize = 10;
+
+const BLACKENED: usize = 11;
+
+const IN_USE: usize = 12;
+
+fn tag(p: Phase) -> u32
+    ensures { λ n. ⌜ n ≡ tagOf p ⌝ }
+{
+    match p {
+        Phase::Roots(_) => 0,
+        Phase::Scan(_, _) => 1,
+        Phase::Left(_) => 2,
+        Phase::Right(_) => 3,
+        Phase::Black(_) => 4,
+        Phase::Append(_) => 5,
+    }
+}
+
+fn rest(p: Phase) -> u16
+    ensures { λ n. ⌜ n ≡ kOf p ⌝ }
+{
+    match p {
+        Phase::Roots(_) => 0,
+        Phase::Scan(_, k) => k,
+        Phase::Left(_) => 0,
+        Phase::Right(_) => 0,
+        Phase::Black(_) => 0,
+        Phase::Append(_) => 0,
+    }
+}
+
+fn owes(o: Owed) -> u32
+    ensures { λ n. ⌜ n ≡ owesOf o ⌝ }
+{
+    match o {
+        Owed::Nothing => 0,
+        Owed::Node(_) => 1,
+    }
+}
+
+fn owed(o: Owed) -> u16
+    ensures { λ n. ⌜ n ≡ owedOf o ⌝ }
+{
+    match o {
+        Owed::Nothing => 0,
+        Owed::Node(n) => n,
+    }
+}
+
+fn laid_out(x: Record, tag: u32, i: u16, k: u16, owes: u32, n: u16) -> [u32; WORDS]
+    ensures { λ w. ⌜ w ≡ laidOut x tag i k owes n ⌝ }
+{
+    let m = x.m;
+    let r = x.r;
+    let last = x.last;
+    let blackened = x.blackened;
+    let inuse = x.inuse;
+    [
+        m as u32,
+        r as u32,
+        tag,
+        i as u32,
+        k as u32,
+        owes,
+        n as u32,
+        last as u32,
+        x.steps,
+        x.cycles,
+        x.took,
+        blackened as u32,
+        inuse as u32,
+        0,
+        0,
+        0,
+        0,
+        0,
+        0,
+        0,
+        0,
+        0,
+        0,
+        0,
+    ]
+}
+
+// The record's words.
+pub fn words_of(x: Record) -> [u32; WORDS]
+    ensures { λ w. ⌜ w ≡ wordsOf x ⌝ }
+    ensures { λ w. ⌜ true ≡ isRecord w ⌝ }
+{
+    let p = x.phase;
+    let o = x.owed;
+    laid_out(x, tag(p), rules::position(p), rest(p), owes(o), owed(o))
+}
+
+// Whether four numbers are at most top.
+fn at_most(top: u32, a: u32, b: u32, c: u32, d: u32) -> bool
+    ensures { λ ok. ⌜ ok ≡ every (leb a top ∷ leb b top ∷ leb c top ∷ leb d top ∷ []) ⌝ }
+{
+    if top < a {
+        return false;
+    }
+    if top < b {
+        return false;
+    }
+    if top < c {
+        return false;
+    }
+    d <= top
+}
+
+// Whether each word has its width; those from 13 on have no use. They are tested by name, not in a
+// loop: the compiler would make it load four words at once, which waits until the words that the
+// call before stored one by one are in memory.
+fn within(w: [u32; WORDS]) -> bool
+    ensures { λ ok. ⌜ ok ≡ within w WORDS ⌝ }
+{
+    if 5 < w[PHASE] {
+        return false;
+    }
+    if 1 < w[OWES] {
+        return false;
+    }
+    if !at_most(65535, w[I], w[K], w[OWED], w[LAST]) {
+        return false;
+    }
+    if !at_most(65535, w[NODES], w[SLOTS], w[BLACKENED], w[IN_USE]) {
+        return false;
+    }
+    if !at_most(4294967295, w[STEPS], w[CYCLES], w[TOOK], 0) {
+        return false;
+    }
+    if !at_most(0, w[13], w[14], w[15], w[16]) {
+        return false;
+    }
+    if !at_most(0, w[17], w[18], w[19], w[20]) {
+        return false;
+    }
+    if !at_most(0, w[21], w[22], w[23], 0) {
+        return false;
+    }
+    true
+}
+
+fn flagged(flag: u32, n: u32) -> bool
+    ensures { λ ok. ⌜ ok ≡ flagged flag n ⌝ }
+{
+    if flag == 1 {
+        return true;
+    }
+    n == 0
+}
+
+// Whether words are a record's.
+pub fn is_record(w: [u32; WORDS]) -> bool
+    ensures { λ ok. ⌜ ok ≡ isRecord w ⌝ }
+{
+    if !within(w) {
+        return false;
+    }
+    if !flagged(w[PHASE], w[K]) {
+        return false;
+    }
+    flagged(w[OWES], w[OWED])
+}
+
+fn phase_of(tag: u32, i: u16, k: u16) -> Phase
+    ensures { λ p. ⌜ p ≡ phaseOf tag i k ⌝ }
+{
+    if tag == 0 {
+        return Phase::Roots(i);
+    }
+    if tag == 1 {
+        return Phase::Scan(i, k);
+    }
+    if tag == 2 {
+        return Phase::Left(i);
+    }
+    if tag == 3 {
+        return Phase::Right(i);
+    }
+    if tag == 4 {
+        return Phase::Black(i);
+    }
+    Phase::Append(i)
+}
+
+fn shade_of(owes: u32, n: u16) -> Owed
+    ensures { λ o. ⌜ o ≡ shadeOf owes n ⌝ }
+{
+    if owes == 0 {
+        return Owed::Nothing;
+    }
+    Owed::Node(n)
+}
+
+fn picked_up(w: [u32; WORDS], phase: Phase, owed: Owed) -> Record
+    requires { ⌜ Within w WORDS ⌝ }
+    ensures { λ x. ⌜ x ≡ pickedUp w phase owed ⌝ }
+{
+    Record {
+        m: w[NODES] as u16,
+        r: w[SLOTS] as u16,
+        phase,
+        owed,
+        last: w[LAST] as u16,
+        steps: w[STEPS],
+        cycles: w[CYCLES],
+        took: w[TOOK],
+        blackened: w[BLACKENED] as u16,
+        inuse: w[IN_USE] as u16,
+    }
+}
+
+// The record that words are.
+pub fn record_of(w: [u32; WORDS]) -> Record
+    requires { ⌜ true ≡ isRecord w ⌝ }
+    ensures { λ x. ⌜ x ≡ recordOf w ⌝ }
+{
+    let phase = phase_of(w[PHASE], w[I] as u16, w[K] as u16);
+    let owed = shade_of(w[OWES], w[OWED] as u16);
+    picked_up(w, phase, owed)
+}

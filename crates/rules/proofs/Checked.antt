@@ -1,0 +1,85 @@
+-- Where codes 1 and 2 are not given, the record and the lengths are good: the tests as facts.
+use Prim.Native.Nat.{ℕ, _+_, _≤_, _<_}
+use mathlib.Core.Bool.{Bool, true, false, _||_}
+use mathlib.Core.List.{List, [], _∷_}
+use lib.ListN.{length}
+use mathlib.Core.Path.{_≡_, refl, sym}
+use native.Mathlib.Omega.{arith}
+use lib.Dec.{ltb, leb, eqb}
+use borrow.Author.Tests.{ltb-true, leb-true}
+use Rattle.base.specs.Choice.{every, pick}
+use Rattle.base.proofs.Tests.{each, facts, tests}
+use Rattle.rules.specs.Table.{mostNodes}
+use Rattle.rules.specs.Check.{sizeOk, phaseOk, owedOk, lastOk, bound, cycleOk, toldOk}
+use Rattle.rules.specs.Check.{countsOk, recordOk, checkOf}
+use Rattle.rules.specs.Facts.{Checked, Tells, InRange, Owable}
+use Rattle.rules.specs.declared.Record.{Record}
+use Rattle.rules.specs.declared.Phase.{Phase}
+use Rattle.rules.specs.declared.Phase.the-variants.{Roots, Scan, Left, Right, Black, Append}
+use Rattle.rules.specs.declared.Owed.{Owed}
+use Rattle.rules.specs.declared.Owed.the-variants.{Nothing, Node}
+use Rattle.rules.proofs.Sizes.{square}
+
+-- both tests are passed where the code is 0
+both : (s k : Bool) → _≡_ {A = ℕ} 0 (pick s (pick k 0 2) 1) → (true ≡ s) × (true ≡ k)
+unfolding pick
+both true true e = (refl, refl)
+both true false e = absurd (omega arith)
+both false k e = absurd (omega arith)
+
+pub passes : (ls : List ℕ) (cl : ℕ) (x : Record) → 0 ≡ checkOf ls cl x
+    → (true ≡ sizeOk (x .m) (x .r) ls cl) × (true ≡ recordOk (length ls) x)
+unfolding checkOf
+passes ls cl x e = both _ _ e
+
+last-of : (m r n : ℕ) → lastOk m r n ≡ true → 3 ≤ m → (1 ≤ n) × (n < m)
+unfolding lastOk
+last-of m r n e q = go (eqb n 1) refl e
+  where
+    go : (b : Bool) → eqb n 1 ≡ b → b || every (leb (r + 2) n ∷ ltb n m ∷ []) ≡ true
+        → (1 ≤ n) × (n < m)
+    go true h k = omega facts
+    go false h k = let f = each _ (sym k) in omega facts
+
+inside-of : (m r : ℕ) (p : Phase) → phaseOk m r p ≡ true → InRange m r p
+unfolding phaseOk
+inside-of m r (Roots i) e = leb-true _ _ e
+inside-of m r (Scan i k) e = let f = each _ (sym e) in omega facts
+inside-of m r (Left i) e = ltb-true _ _ e
+inside-of m r (Right i) e = ltb-true _ _ e
+inside-of m r (Black i) e = ltb-true _ _ e
+inside-of m r (Append i) e = ltb-true _ _ e
+
+-- what earlier cycles told, as facts and as a test
+pub tells : (x : Record) (b : ℕ) → true ≡ toldOk x b → Tells x b
+unfolding toldOk
+tells x b e = let f = each _ e in omega facts
+
+pub tells-ok : (x : Record) (b : ℕ) → Tells x b → true ≡ toldOk x b
+unfolding toldOk
+tells-ok x b t = search (tests, t) depth 12
+
+owable-of : (m : ℕ) (o : Owed) → owedOk m o ≡ true → Owable m o
+unfolding owedOk
+owable-of m Nothing e = tt
+owable-of m (Node n) e = ltb-true _ _ (each _ (sym e) .1 .0)
+
+pub good : (ll rl cl : ℕ) (x : Record) → 0 ≡ checkOf (ll ∷ rl ∷ []) cl x → Checked ll rl cl x
+unfolding sizeOk recordOk countsOk cycleOk bound
+good ll rl cl x e =
+    let s = each _ (passes (ll ∷ rl ∷ []) cl x e .0) in
+    let k = each _ (passes (ll ∷ rl ∷ []) cl x e .1) in
+    let n = each _ (sym (each _ (sym (k .1 .1 .1 .0)) .0)) in
+    let h : x .m ≤ mostNodes = omega facts in
+    let q = square (x .m) h in
+    let l = last-of (x .m) (x .r) (x .last) (k .1 .1 .0) (omega facts) in
+    omega facts
+
+pub inside : (ls : List ℕ) (cl : ℕ) (x : Record) → 0 ≡ checkOf ls cl x
+    → InRange (x .m) (x .r) (x .phase)
+unfolding recordOk
+inside ls cl x e = inside-of _ _ _ (each _ (passes ls cl x e .1) .0)
+
+pub owable : (ls : List ℕ) (cl : ℕ) (x : Record) → 0 ≡ checkOf ls cl x → Owable (x .m) (x .owed)
+unfolding recordOk
+owable ls cl x e = owable-of _ _ (each _ (passes ls cl x e .1) .1 .0)
