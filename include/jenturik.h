@@ -7,8 +7,9 @@
  *
  * How it is used
  *
- * Make a table once (jenturik_fresh). Edit the graph with jenturik_take and jenturik_link; call
- * jenturik_shade after each link. Spend some collector steps each frame (jenturik_collect_many).
+ * Make a table once (jenturik_fresh, or jenturik_load with edges that are there already). Edit the
+ * graph with jenturik_take and jenturik_link; call jenturik_shade after each link. Spend some
+ * collector steps each frame (jenturik_collect_many).
  * The collector finds the nodes that no slot leads to, and makes them free. examples/viewer.c is
  * such a program.
  *
@@ -49,15 +50,15 @@
  * Refusals
  *
  * A refused call answers a code above 0 and changes neither the arrays nor the words. There are two
- * exceptions: jenturik_fresh writes the words in any case; in a schedule, and in many steps, the
- * steps before the refused one stay done. A number out of range is refused, however large it is.
- * Words that form no valid record are refused with code 2, before anything else is judged. If
- * there are several reasons, the answer has the first in this order: 1, 2, 10, 3, 4, 5 or 6; then
- * 7 and 8 on the way to the places; then 9.
+ * exceptions: jenturik_fresh and jenturik_load write the words in any case; in a schedule, and in
+ * many steps, the steps before the refused one stay done. A number out of range is refused, however
+ * large it is. Words that form no valid record are refused with code 2, before anything else is
+ * judged. If there are several reasons, the answer has the first in this order: 1, 2, 10, 3, 4, 5
+ * or 6; then 7 and 8 on the way to the places; then 9. For jenturik_load it is 1, 11, 12, 13.
  *
- * Codes 1, 2 and 7 cannot occur, and no collector step is refused, if jenturik_fresh made the
- * table, only these calls have written to it and to the words since, and every call is given the
- * arrays with their own lengths.
+ * Codes 1, 2 and 7 cannot occur, and no collector step is refused, if jenturik_fresh or
+ * jenturik_load made the table, only these calls have written to it and to the words since, and
+ * every call is given the arrays with their own lengths.
  *
  * How many collector steps
  *
@@ -103,7 +104,7 @@ enum {
 /* What was done. */
 enum {
     JENTURIK_REFUSED = 0,
-    JENTURIK_STARTED = 1,    /* fresh: the last free node, 1 if none is free */
+    JENTURIK_STARTED = 1,    /* fresh, load: the last free node, 1 if none is free */
     JENTURIK_NAMED = 2,      /* look */
     JENTURIK_LINKED = 3,     /* link: the target */
     JENTURIK_TAKEN = 4,      /* take: the node taken */
@@ -127,11 +128,19 @@ enum {
     JENTURIK_DAMAGED = 7,         /* the call met a bad edge or colour; the answer has its node */
     JENTURIK_SOURCE_IS_NIL = 8,   /* link or take: the source place is NIL, which has no edges */
     JENTURIK_NO_FREE_NODE = 9,    /* take: the free list is empty */
-    JENTURIK_UNREADABLE = 10      /* a side above 1, a kind above 4, an unused word of a step that
+    JENTURIK_UNREADABLE = 10,     /* a side above 1, a kind above 4, an unused word of a step that
                                      is not 0, or a schedule with words left over */
+    /* load only; the answer has a node */
+    JENTURIK_BAD_GIVEN_EDGE = 11,  /* an edge that is 1 or not below M, or an edge of NIL that is
+                                      not 0: the lowest node that has one */
+    JENTURIK_BAD_FREE_LIST = 12,   /* the first node on the way from FREE along the left edges
+                                      whose right edge is not 0, or whose left edge leads to a
+                                      slot's node or to a node that was passed */
+    JENTURIK_FREE_NODE_IN_USE = 13 /* the lowest free node that a slot leads to */
 };
 
-/* An answer: what was done, the code, and the node. A refusal's node is 0, but for code 7. */
+/* An answer: what was done, the code, and the node. A refusal's node is 0, but for codes 7, 11, 12
+ * and 13. */
 typedef struct {
     uint32_t what, code, node;
 } jenturik_told;
@@ -168,6 +177,20 @@ jenturik_told jenturik_fresh(uint16_t *left, size_t lefts, uint16_t *right, size
                              uint8_t *colour, size_t colours, uint32_t words[JENTURIK_WORDS],
                              uint32_t nodes, uint32_t slots);
 
+/* Makes a table of `nodes` nodes and `slots` slots with the edges of two lists of `nodes` entries:
+ * node n's left edge is given_left[n]. Every node is white, no shade is owed, the counts are 0. The
+ * free nodes are those that FREE leads to along the left edges; what neither FREE nor a slot leads
+ * to is garbage, and may have any good edges. Answers the last free node. Writes all three arrays
+ * and the words; the lists are only read, and overlap none of these. On the stack it keeps arrays
+ * of 36 KiB.
+ * If it is refused (1, 11, 12, 13), the arrays stay as they are and the words become all 0, as with
+ * jenturik_fresh. */
+jenturik_told jenturik_load(uint16_t *left, size_t lefts, uint16_t *right, size_t rights,
+                            uint8_t *colour, size_t colours, uint32_t words[JENTURIK_WORDS],
+                            const uint32_t *given_left, size_t given_lefts,
+                            const uint32_t *given_right, size_t given_rights, uint32_t nodes,
+                            uint32_t slots);
+
 /* Names the node at a place, 0 for NIL. Writes nothing. */
 jenturik_told jenturik_look(const uint16_t *left, size_t lefts, const uint16_t *right,
                             size_t rights, const uint8_t *colour, size_t colours,
@@ -190,8 +213,8 @@ jenturik_told jenturik_shade(const uint16_t *left, size_t lefts, const uint16_t 
 
 /* Takes the first free node off the free list, and points the edge of the node at the place, on
  * this side, to it. The left edge of the node taken becomes NIL; its right edge is NIL in every run
- * from a fresh table. Answers the node taken. Writes three edges, at most two colours and the
- * words. */
+ * from a fresh or loaded table. Answers the node taken. Writes three edges, at most two colours and
+ * the words. */
 jenturik_told jenturik_take(uint16_t *left, size_t lefts, uint16_t *right, size_t rights,
                             uint8_t *colour, size_t colours, uint32_t words[JENTURIK_WORDS],
                             uint32_t slot, uint32_t count, uint32_t word, uint32_t side);

@@ -1,5 +1,5 @@
 /* The exported calls by number, each with arguments that a sound table accepts, so that a test can
- * try all of them alike. jenturik_fresh is apart. */
+ * try all of them alike. jenturik_fresh and jenturik_load are apart. */
 #ifndef CALLS_H
 #define CALLS_H
 

@@ -1,12 +1,15 @@
 /* What every call must refuse: null arrays [C 11], wrong lengths [Codes 1], words that are no
- * record [C 4], records out of range [Codes 2], and jenturik_fresh's sizes [Fresh 7].
+ * record [C 4], records out of range [Codes 2], jenturik_fresh's sizes [Fresh 7], and all that
+ * jenturik_load judges [Load 6] [Load 7].
  * The last line is 'N passed, M failed'. */
 #define _DEFAULT_SOURCE
+#include "lists.h"
 #include "trial.h"
 
 enum { M = 9, R = 2, BIG = 65536 };
 
 static table sound, bad, other;
+static lists edges;
 
 /* The table in the given phase, at a position of it, with node 2 owed or nothing. */
 static void set_phase(table *s, uint32_t phase, uint32_t owes) {
@@ -122,8 +125,8 @@ static int is_record(const uint32_t *w) {
     int good = w[JENTURIK_PHASE] <= 5 && (w[JENTURIK_PHASE] == 1 || w[JENTURIK_K] == 0) &&
                w[JENTURIK_OWES] <= 1 && (w[JENTURIK_OWES] == 1 || w[JENTURIK_OWED] == 0);
     for (int i = 0; i < JENTURIK_USED; i++)
-        good = good && (w[i] < BIG || i == JENTURIK_STEPS || i == JENTURIK_CYCLES ||
-                        i == JENTURIK_TOOK);
+        good = good &&
+               (w[i] < BIG || i == JENTURIK_STEPS || i == JENTURIK_CYCLES || i == JENTURIK_TOOK);
     for (int i = JENTURIK_USED; i < JENTURIK_WORDS; i++) good = good && w[i] == 0;
     return good;
 }
@@ -152,17 +155,27 @@ static void random_words(long count) {
     check(kept, "a refused call on random words changes nothing", "all calls", count);
 }
 
-/* jenturik_fresh refused: code 1, the arrays stay, the words are the record of no nodes. */
+/* The bad table, lent to a start with words that are no record's. */
+static void lend_bad(int high) {
+    memset(bad.words, 0xff, sizeof bad.words);
+    lend(&t, &bad, high);
+}
+
+/* A start refused: the code and the node, the arrays stay, the words are the record of no nodes. */
+static void start_refused(jenturik_told a, uint32_t code, uint32_t node, const char *why,
+                          const char *name, long n) {
+    take_back(&t, &after);
+    check(a.code == code && a.what == 0 && a.node == node, why, name, n);
+    memset(bad.words, 0, sizeof bad.words);
+    check(same(&bad, &after), "a refused start leaves the arrays, and the words are all 0", name,
+          n);
+}
+
 static void fresh_refuses(uint32_t nodes, uint32_t slots) {
     for (int high = 0; high < 2; high++) {
-        memset(bad.words, 0xff, sizeof bad.words);
-        lend(&t, &bad, high);
-        jenturik_told a = jenturik_fresh(LENT(&t), nodes, slots);
-        take_back(&t, &after);
-        check(a.code == 1 && a.what == 0 && a.node == 0, "fresh refuses", "fresh", (long)nodes);
-        memset(bad.words, 0, sizeof bad.words);
-        check(same(&bad, &after), "a refused fresh leaves the arrays, and the words are all 0",
-              "fresh", (long)nodes);
+        lend_bad(high);
+        start_refused(jenturik_fresh(LENT(&t), nodes, slots), 1, 0, "fresh refuses", "fresh",
+                      (long)nodes);
     }
 }
 
@@ -188,8 +201,135 @@ static void fresh_edges(void) {
         check(other.words[JENTURIK_LAST] == 4095, "4096 nodes", "fresh", 4096);
 }
 
+/* The edges of a table, as lists. */
+static void list(const table *s) {
+    edges.lefts = s->lefts, edges.rights = s->rights;
+    for (size_t i = 0; i < s->lefts; i++) edges.left[i] = s->left[i];
+    for (size_t i = 0; i < s->rights; i++) edges.right[i] = s->right[i];
+}
+
+static void load_refuses(uint32_t nodes, uint32_t slots, uint32_t code, uint32_t node,
+                         const char *why, long n) {
+    for (int high = 0; high < 2; high++) {
+        lend_bad(high);
+        start_refused(load(&t, &edges, nodes, slots, high), code, node, why, "load", n);
+    }
+}
+
+/* Accepted: the table is the lists', all white, and its record has this last and counts of 0. */
+static void load_accepts(uint32_t nodes, uint32_t slots, uint32_t last, const char *why) {
+    for (int high = 0; high < 2; high++) {
+        lend_bad(high);
+        jenturik_told a = load(&t, &edges, nodes, slots, high);
+        take_back(&t, &after);
+        int good = a.code == 0 && a.what == JENTURIK_STARTED && a.node == last;
+        for (uint32_t i = 0; i < nodes; i++)
+            good = good && after.left[i] == edges.left[i] && after.right[i] == edges.right[i] &&
+                   after.colour[i] == 0;
+        for (int word = 0; word < JENTURIK_WORDS; word++)
+            good = good && after.words[word] == (word == JENTURIK_NODES   ? nodes
+                                                 : word == JENTURIK_SLOTS ? slots
+                                                 : word == JENTURIK_LAST  ? last
+                                                                          : 0);
+        check(good, why, "load", (long)last);
+    }
+}
+
+/* Null and length 0, and other wrong lengths: each of the five arrays alone, and all of them. */
+static void load_lengths(void) {
+    static const size_t wrong[] = {0, 1, M - 1, M + 1, 2 * M, 4096, 4097};
+    size_t *const lengths[] = {&bad.lefts, &bad.rights, &bad.colours, &edges.lefts, &edges.rights};
+    for (size_t i = 0; i < sizeof wrong / sizeof *wrong; i++) {
+        bad = sound, list(&sound);
+        for (int which = 0; which < 5; which++) {
+            *lengths[which] = wrong[i];
+            load_refuses(M, R, 1, 0, "an array's length", which);
+            *lengths[which] = M;
+        }
+        for (int which = 0; which < 5; which++) *lengths[which] = wrong[i];
+        load_refuses(M, R, 1, 0, "all lengths", (long)wrong[i]);
+    }
+    for (int which = 0; which < 5; which++) *lengths[which] = 0;
+    load_refuses(0, 0, 1, 0, "all are null", 0), load_refuses(0, 1, 1, 0, "all are null", 1);
+}
+
+static void load_sizes(void) {
+    static const uint32_t nodes[] = {0, 1, 2, M - 1, M + 1, 4097, BIG + M, UINT32_MAX},
+                          slots[] = {0, 65, M - 1, M, BIG + R, UINT32_MAX};
+    bad = sound, list(&sound);
+    for (size_t i = 0; i < 8; i++) load_refuses(nodes[i], R, 1, 0, "nodes", (long)nodes[i]);
+    for (size_t i = 0; i < 6; i++) load_refuses(M, slots[i], 1, 0, "slots", (long)slots[i]);
+}
+
+/* A node's edge on a side becomes this, in the lists of a fresh table. */
+static void set_edge(uint32_t node, int side, uint32_t edge) {
+    (side == 0 ? edges.left : edges.right)[node] = edge;
+}
+
+/* One edge of a fresh table's lists is changed; refused with this code and node. */
+static void load_edge(uint32_t node, int side, uint32_t edge, uint32_t code, uint32_t told) {
+    list(&other), set_edge(node, side, edge);
+    load_refuses(M, R, code, told, "an edge", (long)edge);
+}
+
+/* Bad edges, among them such as are good in their lower 16 bits: 11 and the lowest node. */
+static void load_bad_edges(void) {
+    static const uint32_t wrong[] = {1, M, 4096, 65535, BIG, BIG + 5, 0x80000000u, UINT32_MAX};
+    for (size_t i = 0; i < 8; i++)
+        for (int side = 0; side < 2; side++)
+            load_edge(0, side, wrong[i], 11, 0), load_edge(3, side, wrong[i], 11, 3),
+                load_edge(M - 1, side, wrong[i], 11, M - 1);
+    load_edge(0, 0, 2, 11, 0), load_edge(0, 1, M - 1, 11, 0);
+    list(&other), set_edge(7, 0, 1), set_edge(5, 1, M), set_edge(1, 1, 4), set_edge(2, 0, 6);
+    load_refuses(M, R, 11, 5, "the lowest, and before 12 and 13", 5);
+}
+
+/* The free list, FREE to 4 to 5 .. to 8, broken: 12 and the first node at which it is. */
+static void load_chains(void) {
+    load_edge(1, 0, 2, 12, 1), load_edge(1, 1, 2, 12, 1), load_edge(1, 1, 4, 12, 1);
+    load_edge(6, 0, 3, 12, 6), load_edge(6, 1, 2, 12, 6), load_edge(6, 0, 4, 12, 6);
+    load_edge(8, 0, 8, 12, 8), load_edge(8, 0, 4, 12, 8), load_edge(8, 1, 8, 12, 8);
+    list(&other), set_edge(7, 1, 2), set_edge(5, 0, 3), set_edge(2, 0, 4);
+    load_refuses(M, R, 12, 5, "the first, and before 13", 5);
+}
+
+/* A slot leads to a free node: 13 and the lowest. */
+static void load_shared(void) {
+    load_edge(2, 0, 4, 13, 4), load_edge(3, 1, 8, 13, 8), load_edge(2, 1, 6, 13, 6);
+    list(&other), set_edge(2, 0, 8), set_edge(3, 1, 5);
+    load_refuses(M, R, 13, 5, "the lowest", 5);
+    list(&other), set_edge(1, 0, 8), set_edge(8, 0, 6), set_edge(6, 0, 4), set_edge(4, 0, 0);
+    set_edge(2, 0, 7), set_edge(7, 1, 6);
+    load_refuses(M, R, 13, 4, "the lowest, not the first that is met", 4);
+}
+
+/* Accepted: what a run left, garbage with any good edges, an empty free list, M of 4,096. */
+static void load_accepted(void) {
+    bad = sound, list(&sound);
+    load_accepts(M, R, sound.words[JENTURIK_LAST], "what a run left");
+    list(&other), load_accepts(M, R, M - 1, "a fresh table's edges");
+    set_edge(7, 0, 0), load_accepts(M, R, 7, "last is the end of the free list");
+    set_edge(8, 1, 4), load_accepts(M, R, 7, "garbage leads to a free node");
+    set_edge(1, 0, 0), set_edge(2, 0, 5), set_edge(3, 1, 2);
+    load_accepts(M, R, 1, "no node is free");
+    make_fresh(&bad, 4096, 64), list(&bad), load_accepts(4096, 64, 4095, "4096 nodes");
+    bad.lefts = bad.rights = bad.colours = edges.lefts = edges.rights = 3;
+    memset(edges.left, 0, 12), load_accepts(3, 1, 1, "3 nodes");
+}
+
+static void load_edges(void) {
+    load_lengths();
+    load_sizes();
+    bad = sound, make_fresh(&other, M, R);
+    load_bad_edges();
+    load_chains();
+    load_shared();
+    load_accepted();
+}
+
 int main(void) {
     trial_open();
+    lists_open();
     make_sound(&sound, M, R, 6);
     nulls();
     lengths();
@@ -197,5 +337,6 @@ int main(void) {
         words_of_phase(phase, 0), words_of_phase(phase, 1), numbers_of_phase(phase);
     random_words(20000);
     fresh_edges();
+    load_edges();
     return trial_close();
 }

@@ -159,3 +159,77 @@ size_t plain_many(const struct table *t, struct record *x, size_t n, struct answ
     }
     return done;
 }
+
+enum { NODES = 4096 };
+
+static int bad_edge(uint32_t e, uint32_t m) { return e >= m || e == 1; }
+
+/* Code 11: the lowest node with a bad edge, m where there is none. */
+static uint32_t first_bad(const uint32_t *lefts, const uint32_t *rights, uint32_t m) {
+    if (lefts[0] != 0 || rights[0] != 0) return 0;
+    uint32_t n = 1;
+    while (n < m && !bad_edge(lefts[n], m) && !bad_edge(rights[n], m)) n++;
+    return n;
+}
+
+/* Code 12: walks the free list and notes its nodes. */
+static struct answer walk(const uint32_t *lefts, const uint32_t *rights, uint32_t r,
+                          uint8_t *is_free) {
+    uint32_t n = 1;
+    for (;;) {
+        uint32_t next = lefts[n];
+        if (rights[n] != 0) return say(REFUSED, 12, n);
+        if (next == 0) return say(STARTED, 0, n);
+        if (next < r + 2 || is_free[next]) return say(REFUSED, 12, n);
+        is_free[next] = 1;
+        n = next;
+    }
+}
+
+/* Notes what the slots reach: a queue of the nodes whose edges are still to be followed. */
+static void mark(const uint32_t *lefts, const uint32_t *rights, uint32_t r, uint8_t *reached) {
+    uint16_t queue[NODES];
+    uint32_t head = 0, tail = 0;
+    reached[0] = 1;
+    for (uint32_t n = 2; n < r + 2; n++) reached[n] = 1, queue[tail++] = n;
+    while (head < tail) {
+        uint32_t n = queue[head++], l = lefts[n], g = rights[n];
+        if (!reached[l]) reached[l] = 1, queue[tail++] = l;
+        if (!reached[g]) reached[g] = 1, queue[tail++] = g;
+    }
+}
+
+/* Code 13: the lowest free node that is reached, m where there is none. */
+static uint32_t first_shared(const uint8_t *is_free, const uint8_t *reached, uint32_t m) {
+    uint32_t n = 2;
+    while (n < m && !(is_free[n] && reached[n])) n++;
+    return n;
+}
+
+static struct answer judge(const uint32_t *lefts, const uint32_t *rights, uint32_t m, uint32_t r) {
+    uint8_t is_free[NODES], reached[NODES];
+    uint32_t n = first_bad(lefts, rights, m);
+    if (n < m) return say(REFUSED, 11, n);
+    memset(is_free, 0, m);
+    struct answer a = walk(lefts, rights, r, is_free);
+    if (a.code) return a;
+    memset(reached, 0, m);
+    mark(lefts, rights, r, reached);
+    n = first_shared(is_free, reached, m);
+    return n < m ? say(REFUSED, 13, n) : a;
+}
+
+struct answer plain_load(const struct table *t, struct record *x, const uint32_t *lefts,
+                         size_t given_lefts, const uint32_t *rights, size_t given_rights,
+                         uint32_t m, uint32_t r) {
+    memset(x, 0, sizeof *x);
+    if (m < 3 || m > NODES || r < 1 || r > 64 || r + 2 > m) return say(REFUSED, 1, 0);
+    if (t->lefts != m || t->rights != m || t->colours != m) return say(REFUSED, 1, 0);
+    if (given_lefts != m || given_rights != m) return say(REFUSED, 1, 0);
+    struct answer a = judge(lefts, rights, m, r);
+    if (a.code) return a;
+    for (uint32_t n = 0; n < m; n++) t->left[n] = lefts[n], t->right[n] = rights[n];
+    memset(t->colour, 0, m);
+    x->m = m, x->r = r, x->last = a.node;
+    return a;
+}

@@ -1,4 +1,4 @@
-/* The collector in plain C, to measure against: one step, and many steps with memchr. */
+/* The collector in plain C, to measure against: one step, many steps with memchr, and Load. */
 #ifndef PLAIN_H
 #define PLAIN_H
 #include <stddef.h>
@@ -27,5 +27,8 @@ struct table {
 
 int plain_check(const struct table *t, const struct record *x);
 struct answer plain_step(const struct table *t, struct record *x);
+struct answer plain_load(const struct table *t, struct record *x, const uint32_t *lefts,
+                         size_t given_lefts, const uint32_t *rights, size_t given_rights,
+                         uint32_t m, uint32_t r);
 size_t plain_many(const struct table *t, struct record *x, size_t n, struct answer *last);
 #endif

@@ -1,17 +1,20 @@
 /* Reads lines as the second program's modes take them (tests/second/model/main.rs), makes the calls
  * through the library and writes what that mode writes, so that the two can be compared:
  *
- *     state --state     the step by its own call; then from the same state as a schedule of one
- * step, and a collector step by jenturik_collect_many too, which must do and tell the same. A kind
- * above 4 has no call of its own, only the schedule state --run       jenturik_schedule state
- * --many      the lines of --run; each span of collector steps by jenturik_collect_many, the others
- * by jenturik_schedule, one by one state --fresh     jenturik_fresh
+ * - state --state: the step by its own call; then from the same state as a schedule of one step,
+ *   and a collector step by jenturik_collect_many too, which must do and tell the same. A kind
+ *   above 4 has no call of its own, only the schedule.
+ * - state --run: jenturik_schedule.
+ * - state --many: the lines of --run; each span of collector steps by jenturik_collect_many, the
+ *   others by jenturik_schedule, one by one.
+ * - state --fresh: jenturik_fresh.
+ * - state --load: jenturik_load.
  *
  * Lines have numbers of 64 bits, the library's have 32: a larger one becomes the largest. Both
  * refuse either where they read it; a record's number that does not fit its words would show as a
  * difference. */
 #define _DEFAULT_SOURCE
-#include "table.h"
+#include "lists.h"
 
 enum { STEPS = 1000, LINE = 1 << 20 };
 
@@ -19,6 +22,7 @@ static char line[LINE], out[LINE];
 static char *in, *to;
 static int high; /* against which page the arrays lie: in turn */
 static table given, after, again;
+static lists edges;
 static uint32_t steps[JENTURIK_STEP_WORDS * STEPS];
 static lent t;
 static fence order;
@@ -58,6 +62,12 @@ static void read_arrays(void) {
     for (size_t i = 0; i < given.rights; i++) given.right[i] = (uint16_t)number();
     given.colours = length();
     for (size_t i = 0; i < given.colours; i++) given.colour[i] = (uint8_t)number();
+}
+
+static size_t read_list(uint32_t *list) {
+    size_t n = length();
+    for (size_t i = 0; i < n; i++) list[i] = word();
+    return n;
 }
 
 static void read_state(void) {
@@ -184,27 +194,52 @@ static void many_line(void) {
     put_run(all);
 }
 
-static void fresh_line(void) {
-    uint32_t nodes = word(), slots = word();
+/* The arrays that a start is lent, with words that are no record's. */
+static void lend_start(void) {
     memset(given.words, 0xff, sizeof given.words);
     read_arrays();
     lend(&t, &given, high);
-    jenturik_told a = jenturik_fresh(LENT(&t), nodes, slots);
+}
+
+static void take_start(jenturik_told a) {
     take_back(&t, &after);
-    uint32_t what = a.code == 0 ? JENTURIK_STARTED : JENTURIK_REFUSED;
-    if (a.what != what || a.node != after.words[JENTURIK_LAST])
-        fence_fail("fresh tells something else than the last free node");
+    if (a.what != (a.code == 0 ? JENTURIK_STARTED : JENTURIK_REFUSED))
+        fence_fail("a start tells that it did something else");
+    if (a.code == 0 && a.node != after.words[JENTURIK_LAST])
+        fence_fail("a start tells something else than the last free node");
+}
+
+static void fresh_line(void) {
+    uint32_t nodes = word(), slots = word();
+    lend_start();
+    jenturik_told a = jenturik_fresh(LENT(&t), nodes, slots);
+    take_start(a);
+    if (a.code != 0 && a.node != 0) fence_fail("a refused fresh has a node");
     put(a.code);
     put_state(&after);
 }
 
+static void load_line(void) {
+    uint32_t nodes = word(), slots = word();
+    edges.lefts = read_list(edges.left);
+    edges.rights = read_list(edges.right);
+    lend_start();
+    jenturik_told a = load(&t, &edges, nodes, slots, high);
+    take_start(a);
+    if (!fence_kept(&list_left) || !fence_kept(&list_right)) fence_fail("a list was written");
+    put(a.code);
+    put(a.node);
+    put_state(&after);
+}
+
 int main(int argc, char **argv) {
-    static const char *const names[] = {"--state", "--run", "--many", "--fresh"};
-    static void (*const modes[])(void) = {state_line, run_line, many_line, fresh_line};
+    static const char *const names[] = {"--state", "--run", "--many", "--fresh", "--load"};
+    static void (*const modes[])(void) = {state_line, run_line, many_line, fresh_line, load_line};
     int mode = 0;
-    while (mode < 4 && (argc != 2 || strcmp(argv[1], names[mode]) != 0)) mode++;
-    if (mode == 4) fence_fail("usage: state --state | --run | --many | --fresh");
+    while (mode < 5 && (argc != 2 || strcmp(argv[1], names[mode]) != 0)) mode++;
+    if (mode == 5) fence_fail("usage: state --state | --run | --many | --fresh | --load");
     lent_open(&t);
+    lists_open();
     fence_open(&order);
     while (fgets(line, sizeof line, stdin)) {
         in = line;

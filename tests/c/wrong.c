@@ -3,6 +3,7 @@
  * and each must be found. */
 #include "jenturik.h"
 #include <stdlib.h>
+#include <string.h>
 
 #define ARRAYS                                                                                     \
     uint16_t *left, size_t lefts, uint16_t *right, size_t rights, uint8_t *colour, size_t colours
@@ -17,8 +18,11 @@
     const uint16_t *left, size_t lefts, const uint16_t *right, size_t rights, uint8_t *colour,     \
         size_t colours
 #define PLACE uint32_t slot, uint32_t count, uint32_t word
+#define LISTS                                                                                      \
+    const uint32_t *given_left, size_t given_lefts, const uint32_t *given_right, size_t given_rights
 
 jenturik_told __real_jenturik_fresh(ARRAYS, uint32_t *words, uint32_t nodes, uint32_t slots);
+jenturik_told __real_jenturik_load(ARRAYS, uint32_t *words, LISTS, uint32_t nodes, uint32_t slots);
 jenturik_told __real_jenturik_look(READ_ARRAYS, const uint32_t *words, PLACE);
 jenturik_told __real_jenturik_link(EDGES_ARRAYS, uint32_t *words, PLACE, uint32_t side,
                                    uint32_t toslot, uint32_t tocount, uint32_t toword);
@@ -39,6 +43,35 @@ jenturik_told __wrap_jenturik_fresh(ARRAYS, uint32_t *words, uint32_t nodes, uin
     if (wrong(1)) slots &= 0xffff; /* takes the lower half of a number that is too large */
     jenturik_told a = __real_jenturik_fresh(TABLE, nodes, slots);
     if (wrong(2) && a.code == 0) a.node = 0; /* tells no last free node */
+    return a;
+}
+
+/* A list with its edges cut to 16 bits. */
+static const uint32_t *cut(uint32_t *to, const uint32_t *from, size_t n) {
+    for (size_t i = 0; i < n; i++) to[i] = from[i] & 0xffff;
+    return to;
+}
+
+jenturik_told __wrap_jenturik_load(ARRAYS, uint32_t *words, LISTS, uint32_t nodes, uint32_t slots) {
+    static uint32_t cut_left[16384], cut_right[16384], was[JENTURIK_WORDS];
+    static uint8_t colours_were[16384];
+    memcpy(was, words, sizeof was);
+    if (colours != 0) memcpy(colours_were, colour, colours);
+    /* a list's length is not judged */
+    if (wrong(20) && given_lefts > nodes) given_lefts = nodes;
+    if (wrong(21) && given_rights > nodes) given_rights = nodes;
+    if (wrong(22)) /* edges are cut to 16 bits */
+        given_left = cut(cut_left, given_left, given_lefts),
+        given_right = cut(cut_right, given_right, given_rights);
+    if (wrong(23) && given_lefts != 0) /* writes to a list, though it changes nothing */
+        ((volatile uint32_t *)(uintptr_t)given_left)[0] = given_left[0];
+    jenturik_told a = __real_jenturik_load(TABLE, given_left, given_lefts, given_right,
+                                           given_rights, nodes, slots);
+    if (wrong(24) && a.code != 0) memcpy(words, was, sizeof was); /* the words stay when refused */
+    if (wrong(25) && a.code > 1) left[2]++;                       /* writes, though refused */
+    if (wrong(26) && a.code == 0) a.node = words[JENTURIK_LAST] = nodes - 1; /* last is M - 1 */
+    if (wrong(27) && a.code == 0) memcpy(colour, colours_were, colours);     /* the colours stay */
+    if (wrong(28) && a.code > 1) a.node = 0; /* a refusal's node is lost */
     return a;
 }
 
@@ -94,15 +127,14 @@ jenturik_last __wrap_jenturik_collect_many(ARRAYS, uint32_t *words, size_t n) {
 static const uint32_t *without_unused(const uint32_t *steps, size_t numbers) {
     static uint32_t copy[JENTURIK_STEP_WORDS * 1000];
     const size_t used = offsetof(jenturik_step, unused) / sizeof(uint32_t);
-    for (size_t i = 0; i < numbers; i++)
-        copy[i] = i % JENTURIK_STEP_WORDS < used ? steps[i] : 0;
+    for (size_t i = 0; i < numbers; i++) copy[i] = i % JENTURIK_STEP_WORDS < used ? steps[i] : 0;
     return copy;
 }
 
 jenturik_done __wrap_jenturik_schedule(ARRAYS, uint32_t *words, const uint32_t *steps,
                                        size_t numbers) {
     if (wrong(14)) numbers -= numbers % JENTURIK_STEP_WORDS; /* does the whole steps alone */
-    if (wrong(16)) steps = without_unused(steps, numbers); /* overlooks a step's unused words */
+    if (wrong(16)) steps = without_unused(steps, numbers);   /* overlooks a step's unused words */
     jenturik_done d = __real_jenturik_schedule(TABLE, steps, numbers);
     if (wrong(15) && d.code == 10 && d.done > 0) d.code = 0; /* a kind above 4 ends it quietly */
     return d;

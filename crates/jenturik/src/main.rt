@@ -19,6 +19,7 @@ pub enum Standing {
     Going,
     Answered,
     Refused,
+    Unloaded,
     Unread,
     Unwritten,
 }
@@ -102,6 +103,9 @@ fn after(written: bool, s: Session, n: usize) -> Standing {
     if !written {
         return Standing::Unwritten;
     }
+    if transcript::is_stopped(s) {
+        return Standing::Unloaded;
+    }
     if transcript::is_over(s) {
         return Standing::Refused;
     }
@@ -116,6 +120,7 @@ fn goes_on(standing: Standing) -> bool {
         Standing::Going => true,
         Standing::Answered => false,
         Standing::Refused => false,
+        Standing::Unloaded => false,
         Standing::Unread => false,
         Standing::Unwritten => false,
     }
@@ -126,6 +131,8 @@ fn answer(
     left: &mut [u16],
     right: &mut [u16],
     colour: &mut [u8],
+    lefts: &mut [u32],
+    rights: &mut [u32],
     line: &mut [u8],
     out: &mut [u8],
     s: Session,
@@ -133,7 +140,7 @@ fn answer(
     got: isize,
 ) -> Led {
     let n = io::count(got, input);
-    let s = transcript::turn(left, right, colour, line, out, s, input, n);
+    let s = transcript::turn(left, right, colour, lefts, rights, line, out, s, input, n);
     let standing = after(write_used(out, s), s, n);
     Led { s, standing }
 }
@@ -143,6 +150,8 @@ fn serve(
     left: &mut [u16],
     right: &mut [u16],
     colour: &mut [u8],
+    lefts: &mut [u32],
+    rights: &mut [u32],
     line: &mut [u8],
     out: &mut [u8],
     input: &mut [u8],
@@ -154,7 +163,7 @@ fn serve(
         if got < 0 {
             return Standing::Unread;
         }
-        let led = answer(left, right, colour, line, out, s, input, got);
+        let led = answer(left, right, colour, lefts, rights, line, out, s, input, got);
         let standing = led.standing;
         s = led.s;
         if !goes_on(standing) {
@@ -175,6 +184,7 @@ fn tell(standing: Standing) {
         Standing::Going => {}
         Standing::Answered => {}
         Standing::Refused => complain(b"jenturik: the first line is refused\n"),
+        Standing::Unloaded => complain(b"jenturik: the export is refused\n"),
         Standing::Unread => complain(b"jenturik: the input cannot be read\n"),
         Standing::Unwritten => complain(b"jenturik: the output cannot be written\n"),
     }
@@ -184,6 +194,8 @@ fn main() {
     let mut left = [0u16; rules::MOST_NODES];
     let mut right = [0u16; rules::MOST_NODES];
     let mut colour = [0u8; rules::MOST_NODES];
+    let mut lefts = [0u32; rules::MOST_NODES];
+    let mut rights = [0u32; rules::MOST_NODES];
     let mut line = [0u8; transcript::LINE];
     let mut input = [0u8; BLOCK];
     let mut out = [0u8; OUT];
@@ -191,6 +203,8 @@ fn main() {
         &mut left,
         &mut right,
         &mut colour,
+        &mut lefts,
+        &mut rights,
         &mut line,
         &mut out,
         &mut input,

@@ -1,10 +1,12 @@
 -- What a call leaves as it was: Look everything, a refused step everything too, the words among it;
--- many steps in one call leave what those that were done left; a refused Fresh leaves the slices.
+-- many steps in one call leave what those that were done left; a refused Fresh or Load leaves the
+-- slices.
 use Prim.Native.Nat.{ℕ, _%_}
 use mathlib.Core.Bool.{true}
 use mathlib.Core.List.{List, [], _∷_}
 use mathlib.Core.Path.{_≡_, refl, sym, ap, _∙_}
 use lib.Dec.{eqb}
+use borrow.Author.Tests.{eqb-true}
 use lib.ListN.{length, take}
 use Rattle.base.specs.Choice.{first}
 use Rattle.base.proofs.Tests.{pick-yes, split}
@@ -12,12 +14,14 @@ use Rattle.rules.specs.Table.{State, Outcome, state, outcome}
 use Rattle.rules.specs.Check.{check}
 use Rattle.rules.specs.Records.{freshRecord}
 use Rattle.rules.specs.Fresh.{fresh}
+use Rattle.rules.specs.Load.{loadBy, load}
 use Rattle.rules.specs.Steps.{step, run, looking, codeOf}
 use Rattle.rules.specs.Schedules.{Followed, followed, schedule}
 use Rattle.rules.specs.declared.Step.{Step}
 use Rattle.rules.specs.declared.Place.{Place}
 use Rattle.rules.specs.declared.Made.{Made}
 use Rattle.rules.specs.declared.Record.{Record}
+use Rattle.rules.specs.declared.Answer.{Answer}
 use Rattle.rules.specs.Table.{unless}
 use Rattle.rules.specs.Places.{arrive}
 use Rattle.rules.specs.Editor.{look}
@@ -119,7 +123,7 @@ module _ (l r c w : List ℕ) where
       ∙ ap (λ (d : ℕ). facedRun d (z .code) l r c w) n)
       (λ h n. refl)
 
--- a refused Fresh leaves the slices, and writes the words of a table of no nodes
+-- a refused Fresh or Load leaves the slices, and writes the words of a table of no nodes
 module _ (l r c : List ℕ) where
   abbrev pub Refused : Faced
   Refused = faced (record { what = 0; code = 1; node = 0 }) l r c (wordsOf (freshRecord 0 0 0))
@@ -130,3 +134,24 @@ module _ (l r c : List ℕ) where
   fresh-kept m slots =
       split (λ (o : Outcome). (codeOf (o .answer) ≡ 0 → ⊥) → shown o ≡ Refused) _ _ _
       (λ q n. absurd (n refl)) (λ q n. refl)
+
+  -- an outcome that leaves them so
+  abbrev Leaves-none : Outcome → Type 0
+  Leaves-none o =
+      (codeOf (o .answer) ≡ 0 → ⊥) → shown o
+      ≡ faced (toldOf (o .answer)) l r c (wordsOf (freshRecord 0 0 0))
+
+  answered-kept : (m slots : ℕ) (given : List (List ℕ)) (a : Answer)
+      → Leaves-none (loadBy m slots given (l ∷ r ∷ []) c a)
+  unfolding loadBy
+  answered-kept m slots given a =
+      split Leaves-none (eqb (codeOf a) 0) _ _ (λ q n. absurd (n (eqb-true (codeOf a) 0 q)))
+      (λ q n. refl)
+
+  pub load-kept : (m slots : ℕ) (given : List (List ℕ))
+      → (codeOf (load m slots given (l ∷ r ∷ []) c .answer) ≡ 0 → ⊥)
+      → shown (load m slots given (l ∷ r ∷ []) c)
+      ≡ faced (toldOf (load m slots given (l ∷ r ∷ []) c .answer)) l r c
+      (wordsOf (freshRecord 0 0 0))
+  unfolding load
+  load-kept m slots given = answered-kept m slots given _

@@ -11,6 +11,7 @@ ghost use Prim.Native.Nat.{_+_, _*_, _/_, _≤_};
 ghost use lib.ListN.{length};
 ghost use mathlib.Core.Bool.{true};
 ghost use Rattle.rules.specs.Fresh.{fresh};
+ghost use Rattle.rules.specs.Load.{load};
 ghost use Rattle.rules.specs.Steps.{step, taking, linking, shading, collecting, looking};
 ghost use Rattle.rules.specs.Schedules.{ran, schedule, collects};
 ghost use Rattle.record_words.specs.Words.{isRecord};
@@ -126,6 +127,39 @@ pub extern "C" fn jenturik_fresh(
     ensures { λ t. ⌜ true ≡ isRecord (is words) ⌝ }
 {
     let made = fresh::fresh(left, right, colour, nodes as usize, slots as usize);
+    let rec = made.rec;
+    let answer = made.answer;
+    let v = record_words::words_of(rec);
+    *words = v;
+    tell(answer)
+}
+
+// A table with the edges of two lists; the words are written whatever they were.
+#[no_mangle]
+pub extern "C" fn jenturik_load(
+    left: &mut [u16],
+    right: &mut [u16],
+    colour: &mut [u8],
+    words: &mut [u32; record_words::WORDS],
+    lefts: &[u32],
+    rights: &[u32],
+    nodes: u32,
+    slots: u32,
+) -> Told
+    ensures { λ t. ⌜ tells t left right colour words
+        ≡ shown (load nodes slots (was lefts ∷ was rights ∷ []) (was left ∷ was right ∷ [])
+        (was colour)) ⌝ }
+    ensures { λ t. ⌜ true ≡ isRecord (is words) ⌝ }
+{
+    let made = load::load(
+        lefts,
+        rights,
+        left,
+        right,
+        colour,
+        nodes as usize,
+        slots as usize,
+    );
     let rec = made.rec;
     let answer = made.answer;
     let v = record_words::words_of(rec);

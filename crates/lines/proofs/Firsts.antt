@@ -18,7 +18,8 @@ use Rattle.rules.specs.Fresh.{tabulate, fresh, freshLast, freshState}
 use Rattle.rules.specs.declared.Answer.the-variants.{Started, Refused}
 use Rattle.text.specs.declared.Said.{Said}
 use Rattle.text.specs.declared.Said.the-variants.{First, Do, Collect, Unreadable}
-use Rattle.lines.specs.Lines.{Line, answered, placed, failed, opened, first, entries}
+use Rattle.lines.specs.Lines.{Line, prints, answered, placed, failed, opened, first}
+use Rattle.lines.specs.Lines.{entries}
 
 -- the table in the first m entries
 abbrev pub fronts : ℕ → State → State
@@ -27,11 +28,23 @@ fronts m s =
     (s .rec)
 
 -- what a first line prints in the program's own tables, t, is what is told of it, u; and so is the
--- table, unless it fails
+-- table, unless it fails, and has a node and no more than they have entries
 pub record Opens (t u : Line) : Type 0 where
   pub code : t .code ≡ u .code
   pub node : t .node ≡ u .node
   pub table : u .code ≡ 0 → fronts (t .state .rec .m) (t .state) ≡ u .state
+  pub size : u .code ≡ 0 → (0 < u .state .rec .m) × (u .state .rec .m ≤ entries)
+
+-- both fail alike
+failing : {code node : ℕ} {s t : State}
+    → Opens (prints (suc code) node s) (prints (suc code) node t)
+failing = record {
+  code =
+      refl;
+  node = refl;
+  table = λ z. absurd (omega arith);
+  size = λ z. absurd (omega arith);
+}
 
 length-tabulate : (f : ℕ → ℕ) (n : ℕ) → length (tabulate f n) ≡ n
 unfolding tabulate
@@ -63,6 +76,13 @@ module _ (m r : ℕ) where
   unfolding sizeOk
   large h = every-skip _ _ _ (le-yes 3 m (omega arith)) (every-here _ _ (le-no m entries h))
 
+  fits : sizeOk m r (m ∷ m ∷ []) m ≡ true → (0 < m) × (m ≤ entries)
+  unfolding sizeOk
+  fits e =
+      let h = each _ (sym e) in
+      let p = leb-true 3 m (h .0) in
+      (omega arith, leb-true m entries (h .1 .0))
+
   tables : (l k c : List ℕ) → fronts m
       (placed (record { answer = Started (freshLast m r); state = freshState 2 m r }) l k c .state)
       ≡ freshState 2 m r
@@ -86,9 +106,9 @@ module _ (m r : ℕ) where
           judged (take m l) (take m k) (take m c) (length-take-le m l p)
               (length-take-le m k q) (length-take-le m c s),
         )
-        (go (sizeOk m r (m ∷ m ∷ []) m))
+        (go (sizeOk m r (m ∷ m ∷ []) m) refl)
       where
-        go : (b : Bool)
+        go : (b : Bool) → sizeOk m r (m ∷ m ∷ []) m ≡ b
             → Opens
             (placed
             (pick b (record { answer = Started (freshLast m r); state = freshState 2 m r })
@@ -104,19 +124,20 @@ module _ (m r : ℕ) where
               state = state (replicate m 0) (replicate m 0)
                   (replicate m 0) (freshRecord 0 0 0);
             })))
-        go true = record {
+        go true e = record {
           code =
               refl;
           node = refl;
           table = λ _. tables (drop m l) (drop m k) (drop m c);
+          size = λ _. fits e;
         }
-        go false = record { code = refl; node = refl; table = λ z. absurd (omega arith) }
+        go false e = failing
 
     too-large : entries < m → Opens (failed 1 l k c) (first (First m r))
     unfolding fresh-in pick
     too-large h =
         rw (stated, ← large h)
-        (record { code = refl; node = refl; table = λ z. absurd (omega arith) })
+        failing
 
     opens : entries ≤ length l → entries ≤ length k → entries ≤ length c
         → Opens (opened (First m r) l k c) (first (First m r))
@@ -145,13 +166,6 @@ pub opens-first : (said : Said) (l k c : List ℕ) → entries ≤ length l → 
     → entries ≤ length c → Opens (opened said l k c) (first said)
 unfolding opened first
 opens-first (First m r) l k c p q s = opens m r l k c p q s
-opens-first (Do a) l k c p q s = record
-    { code = refl; node = refl; table = λ z. absurd (omega arith) }
-opens-first (Collect n) l k c p q s = record
-    { code = refl; node = refl; table = λ z. absurd (omega arith) }
-opens-first Unreadable l k c p q s = record {
-  code =
-      refl;
-  node = refl;
-  table = λ z. absurd (omega arith);
-}
+opens-first (Do a) l k c p q s = failing
+opens-first (Collect n) l k c p q s = failing
+opens-first Unreadable l k c p q s = failing

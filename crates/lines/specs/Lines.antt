@@ -6,6 +6,7 @@ use lib.ListN.{length, getD, take, drop, replicate}
 use lib.Dec.{leb, eqb}
 use Rattle.rules.specs.Table.{State, Outcome, state, mostNodes}
 use Rattle.rules.specs.Fresh.{fresh}
+use Rattle.rules.specs.Load.{load}
 use Rattle.rules.specs.Records.{position, freshRecord}
 use Rattle.rules.specs.Steps.{step, codeOf, nodeOf}
 use Rattle.rules.specs.Schedules.{schedule, collects}
@@ -43,6 +44,12 @@ later (Do a) s = answered (step a s)
 later (Collect n) s = collected n s
 later (First m r) s = prints 10 0 s
 later Unreadable s = prints 10 0 s
+
+-- [Program 20] an export of these edges, where s is the table of the first line: a loaded table, or
+-- Load's refusal
+unfoldable pub loaded : List ℕ → List ℕ → State → Line
+loaded lefts rights s =
+    answered (load (s .rec .m) (s .rec .r) (lefts ∷ rights ∷ []) (s .edges) (s .colour))
 
 abbrev pub noTable : State
 noTable = state [] [] [] (freshRecord 0 0 0)

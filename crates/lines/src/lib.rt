@@ -1,5 +1,5 @@
-// What a line of the schedule program does: the first, and a later one. The definitions are in
-// specs/.
+// What a line of the schedule program does: the first, a later one, and the last of an export. The
+// definitions are in specs/.
 use rules::Made;
 use rules::Ran;
 use rules::Record;
@@ -13,7 +13,7 @@ ghost use Rattle.rules.specs.Fresh.{fresh};
 ghost use Rattle.rules.specs.Schedules.{ran, schedule, collects};
 ghost use Rattle.text.specs.Grammar.{read};
 ghost use Rattle.lines.specs.Lines.{prints, answered, startOf, collected, later, placed};
-ghost use Rattle.lines.specs.Lines.{failed, opened};
+ghost use Rattle.lines.specs.Lines.{loaded, failed, opened};
 ghost use Rattle.base.specs.Lent.{was, is};
 ghost use Rattle.rules.specs.Lent.{given};
 
@@ -123,6 +123,24 @@ pub fn later(left: &mut [u16], right: &mut [u16], colour: &mut [u8], x: Record, 
             rec: x,
         },
     }
+}
+
+// What an export of these edges prints, and the table that it makes in the place of that of the
+// first line.
+pub fn load(
+    lefts: &[u32],
+    rights: &[u32],
+    left: &mut [u16],
+    right: &mut [u16],
+    colour: &mut [u8],
+    x: Record,
+) -> Told
+    ensures { λ t. ⌜ prints (t .code) (t .node) (state (is left) (is right) (is colour) (t .rec))
+        ≡ loaded (was lefts) (was rights) (given left right colour x) ⌝ }
+{
+    let m = x.m;
+    let r = x.r;
+    answered(load::load(lefts, rights, left, right, colour, m as usize, r as usize))
 }
 
 // A fresh table in the first m entries.

@@ -1,12 +1,13 @@
--- Demand 3 for the public calls in Rattle: Fresh starts a run, any other call is a run of steps.
+-- Demand 3 for the public calls in Rattle: Fresh and Load start a run, any other call is a run of
+-- steps.
 use mathlib.Core.Path.{refl, ap}
 use Rattle.rules.specs.Steps.{run}
 use Rattle.rules.specs.Schedules.{collects}
 use Rattle.rules.specs.declared.Record.{Record}
 use Rattle.schedule.proofs.PartOfRun.{schedule-run}
-use Rattle.runs.specs.Start.{by-fresh}
+use Rattle.runs.specs.Start.{by-fresh, by-load}
 use Rattle.promises.specs.CallRuns.{Lent, lend, stateOf, Demand-calls}
-use Rattle.promises.specs.Calls.{Call, Fresh, Look, Link, Shade, Take, Collect, Any}
+use Rattle.promises.specs.Calls.{Call, Fresh, Load, Look, Link, Shade, Take, Collect, Any}
 use Rattle.promises.specs.Calls.{CollectInPlace, Schedule, CollectMany}
 use Rattle.promises.specs.Calls.{left-by, deedOf, rattle}
 use Rattle.promises.proofs.CallRuns as R
@@ -18,6 +19,7 @@ Fit x = Unit {0}
 goes : (c : Call) (h : Lent Record) → R.Goes rattle Fit (λ x. x) c h (deedOf c (stateOf rattle h))
 unfolding left-by deedOf run
 goes (Fresh m r) h = λ z. (_, by-fresh _ _ refl refl z, refl)
+goes (Load m r lefts rights) h = λ z. (_, by-load _ _ _ refl refl z, refl)
 goes (Look p) h = λ u. refl
 goes (Link p side q) h = λ u. refl
 goes Shade h = λ u. refl

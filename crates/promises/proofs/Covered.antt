@@ -7,6 +7,7 @@ use Rattle.rules.specs.Table.{Outcome}
 use Rattle.rules.specs.Schedules.{Followed}
 use Rattle.rules.specs.declared.Record.{Record}
 use Rattle.fresh.proofs.fresh.Reads as fresh
+use Rattle.load.proofs.load.Reads as load
 use Rattle.editor.proofs.look.Reads as look
 use Rattle.editor.proofs.link.Reads as link
 use Rattle.editor.proofs.shade.Reads as shade
@@ -14,7 +15,7 @@ use Rattle.take.proofs.take.Reads as take
 use Rattle.collector.proofs.collect.Reads as collect
 use Rattle.calls.proofs.step.Reads as step
 use Rattle.promises.specs.CallRuns.{lent, lend}
-use Rattle.promises.specs.Calls.{Fresh, Look, Link, Shade, Take, Collect, Any}
+use Rattle.promises.specs.Calls.{Fresh, Load, Look, Link, Shade, Take, Collect, Any}
 use Rattle.promises.specs.Calls.{left-by, rattle}
 
 -- the slices and the record of an outcome
@@ -32,6 +33,15 @@ pub fresh-leaves : (κs : _) (a : _) (r : _) (s : _) (x : Record) → fresh.Lear
     (lent (now (a .0)) (now (a .1 .0)) (now (a .1 .1 .0)) x)
 unfolding left-by
 fresh-leaves κs a r s x = lent-by
+
+-- nor is Load
+pub load-leaves : (κs : _) (a : _) (r : _) (s : _) (x : Record) → load.Learnt κs a r s
+    → lent (now (s .1 .1 .0)) (now (s .1 .1 .1 .0)) (now (s .1 .1 .1 .1 .0)) (r .rec)
+    ≡ rattle .leaves (Load (a .1 .1 .1 .1 .1 .0) (a .1 .1 .1 .1 .1 .1 .0) (now (a .0))
+    (now (a .1 .0)))
+    (lent (now (a .1 .1 .0)) (now (a .1 .1 .1 .0)) (now (a .1 .1 .1 .1 .0)) x)
+unfolding left-by
+load-leaves κs a r s x = lent-by
 
 pub look-leaves : (κs : _) (a : _) (r : _) (s : _) → look.Learnt κs a r s
     → lent (now (a .0)) (now (a .1 .0)) (now (a .1 .1 .0)) (r .rec)

@@ -6,6 +6,7 @@ use mathlib.Core.Path.{_≡_, sym, _∙_}
 use denote.Ref.{now}
 use Rattle.rules.specs.Table.{outcome}
 use Rattle.fresh.proofs.fresh.Reads as fresh
+use Rattle.load.proofs.load.Reads as load
 use Rattle.editor.proofs.look.Reads as look
 use Rattle.editor.proofs.link.Reads as link
 use Rattle.editor.proofs.shade.Reads as shade
@@ -22,6 +23,12 @@ pub fresh-determined : (κs : _) (a : _) (r r′ : _) (s s′ : _) → fresh.Lea
     → outcome r (now (s .0)) (now (s .1 .0)) (now (s .1 .1 .0))
     ≡ outcome r′ (now (s′ .0)) (now (s′ .1 .0)) (now (s′ .1 .1 .0))
 fresh-determined κs a r r′ s s′ = determined
+
+pub load-determined : (κs : _) (a : _) (r r′ : _) (s s′ : _) → load.Learnt κs a r s
+    → load.Learnt κs a r′ s′
+    → outcome r (now (s .1 .1 .0)) (now (s .1 .1 .1 .0)) (now (s .1 .1 .1 .1 .0))
+    ≡ outcome r′ (now (s′ .1 .1 .0)) (now (s′ .1 .1 .1 .0)) (now (s′ .1 .1 .1 .1 .0))
+load-determined κs a r r′ s s′ = determined
 
 -- Look lends no slice to be changed
 pub look-determined : (κs : _) (a : _) (r r′ : _) (s s′ : _) → look.Learnt κs a r s

@@ -8,6 +8,7 @@ use Rattle.jenturik_c.specs.Face.{Faced, faced, placeOf}
 use Rattle.jenturik_c.specs.Many.{facedRun, lastOf}
 use Rattle.jenturik_c.specs.declared.Told.{Told}
 use Rattle.jenturik_c.proofs.jenturik_fresh.Reads as c-fresh
+use Rattle.jenturik_c.proofs.jenturik_load.Reads as c-load
 use Rattle.jenturik_c.proofs.jenturik_look.Reads as c-look
 use Rattle.jenturik_c.proofs.jenturik_link.Reads as c-link
 use Rattle.jenturik_c.proofs.jenturik_shade.Reads as c-shade
@@ -18,7 +19,7 @@ use Rattle.jenturik_c.proofs.jenturik_schedule.Reads as c-schedule
 use Rattle.bench_steps.specs.Steps.{stepped}
 use Rattle.bench_steps.proofs.jenturik_steps.Reads as c-steps
 use Rattle.promises.specs.CallRuns.{lent}
-use Rattle.promises.specs.Words.{Fresh, Look, Link, Shade, Take, Collect}
+use Rattle.promises.specs.Words.{Fresh, Load, Look, Link, Shade, Take, Collect}
 use Rattle.promises.specs.Words.{CollectMany, Schedule, left-in, left-in-run, left-by, words}
 use Rattle.promises.proofs.Determined.{determined}
 
@@ -27,6 +28,12 @@ pub c-fresh-determined : (κs : _) (a : _) (r r′ : _) (s s′ : _)
     → faced r (now (s .0)) (now (s .1 .0)) (now (s .1 .1 .0)) (now (s .1 .1 .1 .0))
     ≡ faced r′ (now (s′ .0)) (now (s′ .1 .0)) (now (s′ .1 .1 .0)) (now (s′ .1 .1 .1 .0))
 c-fresh-determined κs a r r′ s s′ p q = determined (p .0) (q .0)
+
+pub c-load-determined : (κs : _) (a : _) (r r′ : _) (s s′ : _)
+    → c-load.Learnt κs a r s → c-load.Learnt κs a r′ s′
+    → faced r (now (s .0)) (now (s .1 .0)) (now (s .1 .1 .0)) (now (s .1 .1 .1 .0))
+    ≡ faced r′ (now (s′ .0)) (now (s′ .1 .0)) (now (s′ .1 .1 .0)) (now (s′ .1 .1 .1 .0))
+c-load-determined κs a r r′ s s′ p q = determined (p .0) (q .0)
 
 pub c-look-determined : (κs : _) (a : _) (r r′ : _) (s s′ : _)
     → c-look.Learnt κs a r s → c-look.Learnt κs a r′ s′
@@ -88,6 +95,16 @@ pub c-fresh-leaves : (κs : _) (a : _) (r : _) (s : _) (w : List ℕ) → c-fres
     (lent (now (a .0)) (now (a .1 .0)) (now (a .1 .1 .0)) w)
 unfolding left-by
 c-fresh-leaves κs a r s w p = ap left-in (p .0)
+
+-- and so does Load
+pub c-load-leaves : (κs : _) (a : _) (r : _) (s : _) (w : List ℕ) → c-load.Learnt κs a r s
+    → lent (now (s .0)) (now (s .1 .0)) (now (s .1 .1 .0)) (now (s .1 .1 .1 .0))
+    ≡ words .leaves
+    (Load (a .1 .1 .1 .1 .1 .1 .0) (a .1 .1 .1 .1 .1 .1 .1 .0)
+    (now (a .1 .1 .1 .1 .0)) (now (a .1 .1 .1 .1 .1 .0)))
+    (lent (now (a .0)) (now (a .1 .0)) (now (a .1 .1 .0)) w)
+unfolding left-by
+c-load-leaves κs a r s w p = ap left-in (p .0)
 
 pub c-look-leaves : (κs : _) (a : _) (r : _) (s : _) → c-look.Learnt κs a r s
     → lent (now (a .0)) (now (a .1 .0)) (now (a .1 .1 .0)) (now (a .1 .1 .1 .0))

@@ -27,12 +27,12 @@ use Rattle.jenturik_c.specs.Face.{face}
 use Rattle.jenturik_c.specs.Flat.{stepsOf, scheduleOf}
 use Rattle.jenturik_c.proofs.Kept.{Follows, schedule-follows, words-follow, done-kept}
 use Rattle.runs.specs.Runs.{Count}
-use Rattle.runs.specs.Start.{by-fresh}
+use Rattle.runs.specs.Start.{by-fresh, by-load}
 use Rattle.runs.proofs.Sound.{checked}
 use Rattle.runs.proofs.Counting.{Carried}
 use Rattle.promises.specs.CallRuns.{Lent, lend, stateOf, Demand-calls}
 use Rattle.promises.specs.Words.{left-in, left-in-run, once, many, left-by, deedOf, words}
-use Rattle.promises.specs.Words.{Call, Fresh, Look, Link, Shade, Take, Collect}
+use Rattle.promises.specs.Words.{Call, Fresh, Load, Look, Link, Shade, Take, Collect}
 use Rattle.promises.specs.Words.{CollectMany, Schedule}
 use Rattle.promises.proofs.CallRuns as R
 
@@ -88,6 +88,7 @@ module _ (h : Lent (List ℕ)) (u : Fit (h .kept)) where
 goes : (c : Call) (h : Lent (List ℕ)) → R.Goes words Fit wordsOf c h (deedOf c (stateOf words h))
 unfolding left-by deedOf
 goes (Fresh m r) h = λ z. (_, by-fresh _ _ refl refl z, refl)
+goes (Load m r lefts rights) h = λ z. (_, by-load _ _ _ refl refl z, refl)
 goes (Look p) h = λ u. once-run h u (looking p)
 goes (Link p side q) h = λ u. once-run h u (linking p side q)
 goes Shade h = λ u. once-run h u shading

@@ -4,6 +4,7 @@ use mathlib.Core.List.{List, [], _∷_}
 use lib.ListN.{take}
 use Rattle.rules.specs.Table.{State, state}
 use Rattle.rules.specs.Fresh.{fresh}
+use Rattle.rules.specs.Load.{load}
 use Rattle.rules.specs.Steps.{step, taking, linking, shading, collecting, looking, codeOf}
 use Rattle.rules.specs.Schedules.{schedule, collects}
 use Rattle.rules.specs.declared.Record.{Record}
@@ -14,6 +15,8 @@ use Rattle.promises.specs.CallRuns.{lend, Deed, starts, makes, Face}
 pub data Call : Type 0 where
   -- fresh::fresh, given M and R
   Fresh : ℕ → ℕ → Call
+  -- load::load, given M, R and the lists of left and right edges
+  Load : ℕ → ℕ → List ℕ → List ℕ → Call
   -- editor::look, editor::link, editor::shade
   Look : Place → Call
   Link : Place → ℕ → Place → Call
@@ -34,6 +37,8 @@ pub data Call : Type 0 where
 -- the state that a call leaves
 unfoldable pub left-by : Call → State → State
 left-by (Fresh m r) s = fresh m r (s .edges) (s .colour) .state
+left-by (Load m r lefts rights) s =
+    load m r (lefts ∷ rights ∷ []) (s .edges) (s .colour) .state
 left-by (Look p) s = step (looking p) s .state
 left-by (Link p side q) s = step (linking p side q) s .state
 left-by Shade s = step shading s .state
@@ -47,6 +52,8 @@ left-by (CollectMany n) s = schedule (collects n) s .state
 -- the steps that a call makes: of many, as many as were done; a refused one is done by itself only
 unfoldable pub deedOf : Call → State → Deed
 deedOf (Fresh m r) s = starts m r (codeOf (fresh m r (s .edges) (s .colour) .answer))
+deedOf (Load m r lefts rights) s =
+    starts m r (codeOf (load m r (lefts ∷ rights ∷ []) (s .edges) (s .colour) .answer))
 deedOf (Look p) s = makes (looking p ∷ [])
 deedOf (Link p side q) s = makes (linking p side q ∷ [])
 deedOf Shade s = makes (shading ∷ [])

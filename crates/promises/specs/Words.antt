@@ -4,6 +4,7 @@ use mathlib.Core.List.{List, [], _∷_}
 use lib.ListN.{getD, take}
 use Rattle.rules.specs.Table.{State}
 use Rattle.rules.specs.Fresh.{fresh}
+use Rattle.rules.specs.Load.{load}
 use Rattle.rules.specs.Steps.{step, taking, linking, shading, collecting, looking, codeOf}
 use Rattle.rules.specs.Schedules.{Followed, schedule, collects}
 use Rattle.rules.specs.declared.Place.{Place}
@@ -14,9 +15,11 @@ use Rattle.jenturik_c.specs.Flat.{stepsOf, scheduleOf}
 use Rattle.jenturik_c.specs.Many.{FacedRun, faceRun}
 use Rattle.promises.specs.CallRuns.{Lent, lent, Deed, starts, makes, Face}
 
--- jenturik_fresh, jenturik_look, .., given what C gives; a schedule as words
+-- jenturik_fresh, jenturik_look, .., given what C gives; a schedule as words. Load is given M, R
+-- and the lists of left and right edges.
 pub data Call : Type 0 where
   Fresh : ℕ → ℕ → Call
+  Load : ℕ → ℕ → List ℕ → List ℕ → Call
   Look : Place → Call
   Link : Place → ℕ → Place → Call
   Shade : Call
@@ -41,6 +44,8 @@ many f h = left-in-run (faceRun f (h .left) (h .right) (h .colour) (h .kept))
 
 unfoldable pub left-by : Call → Lent (List ℕ) → Lent (List ℕ)
 left-by (Fresh m r) h = left-in (shown (fresh m r (h .left ∷ h .right ∷ []) (h .colour)))
+left-by (Load m r lefts rights) h =
+    left-in (shown (load m r (lefts ∷ rights ∷ []) (h .left ∷ h .right ∷ []) (h .colour)))
 left-by (Look p) h = once (looking p) h
 left-by (Link p side q) h = once (linking p side q) h
 left-by Shade h = once shading h
@@ -53,6 +58,8 @@ left-by (Schedule v) h = many (scheduleOf v) h
 -- of those nothing is known, since a start writes a record's.
 unfoldable pub deedOf : Call → State → Deed
 deedOf (Fresh m r) s = starts m r (codeOf (fresh m r (s .edges) (s .colour) .answer))
+deedOf (Load m r lefts rights) s =
+    starts m r (codeOf (load m r (lefts ∷ rights ∷ []) (s .edges) (s .colour) .answer))
 deedOf (Look p) s = makes (looking p ∷ [])
 deedOf (Link p side q) s = makes (linking p side q ∷ [])
 deedOf Shade s = makes (shading ∷ [])

@@ -7,5 +7,7 @@ pub mod Editor
 pub mod Collector
 pub mod Steps
 pub mod Schedules
+pub mod Meet
+pub mod Load
 pub mod Facts
 pub mod Lent

@@ -5,6 +5,7 @@ use mathlib.Core.List.{List}
 use lib.ListN.{length}
 use Rattle.rules.specs.Table.{State}
 use Rattle.rules.specs.Fresh.{fresh}
+use Rattle.rules.specs.Load.{load}
 use Rattle.rules.specs.Steps.{codeOf}
 
 -- the numbers of edges to a node for which the collector has its phases: a left and a right one
@@ -17,3 +18,7 @@ pub data Start (e m r : ℕ) : State → Type 0 where
   by-fresh : (edges : List (List ℕ)) (colours : List ℕ) → Served e → length edges ≡ e
       → codeOf (fresh m r edges colours .answer) ≡ 0
       → Start e m r (fresh m r edges colours .state)
+  -- [Load 10] one that Load accepted, in lists of any contents
+  by-load : (given edges : List (List ℕ)) (colours : List ℕ) → Served e → length given ≡ e
+      → codeOf (load m r given edges colours .answer) ≡ 0
+      → Start e m r (load m r given edges colours .state)

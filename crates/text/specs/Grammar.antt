@@ -18,6 +18,9 @@ use Rattle.text.specs.declared.Turns.{Turns}
 use Rattle.text.specs.declared.Spot.{Spot}
 use Rattle.text.specs.declared.Sizes.{Sizes}
 use Rattle.text.specs.declared.Form.{Form}
+use Rattle.text.specs.declared.Row.{Row}
+use Rattle.text.specs.declared.Listed.{Listed}
+use Rattle.text.specs.declared.Listed.the-variants.{Edges, Stray}
 
 -- the byte at a position; 256, which no byte is, past the end
 unfoldable pub byteAt : List ℕ → ℕ → ℕ
@@ -145,3 +148,23 @@ read line =
     (pick (ends line (collectLine line .at)) (counted (collectLine line .value))
     (pick (ends line (firstLine line .at)) (First (firstLine line .nodes) (firstLine line .slots))
     Unreadable))))))
+
+-- [Program 18] whether a line begins an export
+unfoldable pub isExport : List ℕ → Bool
+isExport line = ltb (after line 0 (bytes "node=")) lost
+
+-- [Program 19] the form of an export's line
+unfoldable pub entryLine : List ℕ → Row
+entryLine line =
+    let n = numberAt line (after line 0 (bytes "node=")) in
+    let l = numberAt line (after line (n .at) (bytes " left=")) in
+    let r = numberAt line (after line (l .at) (bytes " right=")) in
+    record { node = n .value; left = l .value; right = r .value; at = r .at }
+
+-- [Program 19] the edges of node n; Stray where the line is over 80 bytes, of another form or of
+-- another node
+unfoldable pub entry : List ℕ → ℕ → Listed
+entry line n =
+    pick (every (leb (length line) longest ∷ ends line (entryLine line .at)
+    ∷ eqb (entryLine line .node) n ∷ []))
+    (Edges (entryLine line .left) (entryLine line .right)) Stray

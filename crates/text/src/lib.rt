@@ -6,7 +6,7 @@ ghost use Prim.Native.Nat.{_<_};
 ghost use Rattle.text.specs.Grammar.{byteAt, after, isDigit, digitsAt, numberAt, sideAt};
 ghost use Rattle.text.specs.Grammar.{lettersAt, turnsAt, placeAt, takeLine, linkLine};
 ghost use Rattle.text.specs.Grammar.{shadeLine, lookLine, collectLine, firstLine, counted};
-ghost use Rattle.text.specs.Grammar.{longest, read};
+ghost use Rattle.text.specs.Grammar.{longest, read, isExport, entryLine, entry};
 ghost use Rattle.text.specs.Answers.{digitOf, decimal, said, written, put, putAll};
 ghost use Rattle.base.specs.Lent.{was, is};
 
@@ -72,6 +72,20 @@ pub struct Sizes {
 pub struct Form {
     pub step: Step,
     pub at: usize,
+}
+
+// A node and its edges, and the position behind them.
+pub struct Row {
+    pub node: u32,
+    pub left: u32,
+    pub right: u32,
+    pub at: usize,
+}
+
+// What a line of an export says: the edges of the node that is due, or anything else.
+pub enum Listed {
+    Edges(u32, u32),
+    Stray,
 }
 
 // The byte at a position; 256 past the end.
@@ -347,6 +361,46 @@ pub fn read(line: &[u8]) -> Said
         return Said::First(first.nodes, first.slots);
     }
     Said::Unreadable
+}
+
+// Whether a line begins an export, well formed or not.
+pub fn is_export(line: &[u8]) -> bool
+    ensures { λ r. ⌜ r ≡ isExport (was line) ⌝ }
+{
+    after(line, 0, b"node=") < LOST
+}
+
+fn entry_line(line: &[u8]) -> Row
+    ensures { λ r. ⌜ r ≡ entryLine (was line) ⌝ }
+{
+    let n = number_at(line, after(line, 0, b"node="));
+    let l = number_at(line, after(line, n.at, b" left="));
+    let r = number_at(line, after(line, l.at, b" right="));
+    Row {
+        node: n.value,
+        left: l.value,
+        right: r.value,
+        at: r.at,
+    }
+}
+
+// What the line of an export says where the edges of node n are due.
+pub fn entry(line: &[u8], n: usize) -> Listed
+    ensures { λ r. ⌜ r ≡ entry (was line) n ⌝ }
+{
+    let end = line.len();
+    if LONGEST < end {
+        return Listed::Stray;
+    }
+    let e = entry_line(line);
+    if e.at != end {
+        return Listed::Stray;
+    }
+    let node = e.node;
+    if node as usize != n {
+        return Listed::Stray;
+    }
+    Listed::Edges(e.left, e.right)
 }
 
 // One byte more of the output, where there is room; answers how much is used.

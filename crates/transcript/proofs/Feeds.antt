@@ -67,6 +67,14 @@ stands (b ∷ input) i h = go (eqb b newline) refl (stands input (i + 1)) (behin
         let k = rw e at h in
         rw (e, n) (f (omega arith))
 
+pub newline-at : (input : List ℕ) (i e : ℕ) → e ≡ newlineFrom (drop i input) i → i < length input
+    → e < length input → getD input e 0 ≡ newline
+newline-at input i e q b h =
+    let l = behind (drop i input) i in
+    let s = stands (drop i input) i (rw length-drop (omega arith)) in
+    let sum : i + (newlineFrom (drop i input) i - i) ≡ e = omega arith in
+    rw (getD-drop, sum) at s
+
 -- f is a byte's turn, h g where the lines stand at g: while no newline comes, bytes only go into
 -- the line at hand
 module _ {B : Type 0} (f : B → ℕ → B) (h : Going → B)
@@ -105,8 +113,9 @@ module _ {B : Type 0} (f : B → ℕ → B) (h : Going → B)
     sum = let l = behind (drop i input) i in omega arith
 
     -- up to the first newline from position i on
-    to-end : fold f (drop i input) (h g) ≡ fold f (drop end input) (h lined)
-    unfolding end lined
+    pub to-end : fold f (drop i input) (h g) ≡ fold f (drop (newlineFrom (drop i input) i) input)
+        (h (gathered g (take (newlineFrom (drop i input) i - i) (drop i input))))
+    unfolding end
     to-end = rw (drop-drop, sum) at (over (drop i input) i g)
 
     pub line-fold : newlineFrom (drop i input) i < length input

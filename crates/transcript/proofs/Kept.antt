@@ -1,23 +1,30 @@
--- Of a line 81 bytes are kept: a longer one is as unreadable as they are.
-use Prim.Native.Nat.{ℕ, _<_, _≤_}
+-- Of a line 81 bytes are kept: a longer one is as unreadable as they are, and begins an export
+-- where they do.
+use Prim.Native.Nat.{ℕ, _+_, _<_, _≤_}
 use mathlib.Core.Bool.{Bool, true, false}
 use mathlib.Core.Path.{_≡_, refl, sym, ap, _∙_}
 use mathlib.Core.List.{List, [], _∷_, _++_}
 use native.Mathlib.Omega.{arith}
 use borrow.Author.Tests.{leb-true, leb-false, ne-eqb}
 use lib.ListN.{length, take}
-use lib.Seq.{take-all, take-take, take-append-le, length-take-le}
+use lib.Seq.{take-all, take-take, take-append-le, length-take-le, getD-take}
 use lib.Dec.{leb, eqb}
-use Rattle.base.proofs.Tests.{pick-yes, lt-yes}
-use Rattle.rules.specs.Table.{State}
+use Rattle.base.proofs.Tests.{pick-yes, pick-no, every-here, lt-yes, le-no}
+use Rattle.text.specs.Bytes.{bytes}
 use Rattle.text.specs.declared.Said.the-variants.{Unreadable}
-use Rattle.text.specs.Grammar.{longest, read}
-use Rattle.transcript.specs.Transcript.{answers, opening}
+use Rattle.text.specs.declared.Listed.the-variants.{Stray}
+use Rattle.text.specs.Grammar.{longest, byteAt, after, read, isExport, entry}
+use Rattle.transcript.specs.Transcript.{Awaits, opening, second, export, steps, nothing}
+use Rattle.transcript.specs.Transcript.{answer, bare, reads}
 use Rattle.transcript.specs.Feeding.{keeps}
 
 pub long : (w : List ℕ) → longest < length w → Unreadable ≡ read w
 unfolding read
 long w h = pick-yes _ _ _ _ (lt-yes _ _ h) refl
+
+long-entry : (w : List ℕ) (n : ℕ) → longest < length w → Stray ≡ entry w n
+unfolding entry
+long-entry w n h = pick-no _ _ _ _ (every-here _ _ (le-no _ _ h)) refl
 
 -- by the length
 cases : (P : List ℕ → Type 0) (w : List ℕ) → (length w ≤ keeps → P w) → (keeps < length w → P w)
@@ -28,19 +35,35 @@ cases P w f g = go (leb (length w) keeps) refl
     go true q = f (leb-true _ _ q)
     go false q = g (leb-false _ _ q)
 
-read-kept : (w : List ℕ) → read (take keeps w) ≡ read w
-read-kept w =
-    cases (λ w. read (take keeps w) ≡ read w) w (λ h. rw (take-all keeps w h)) (λ h.
+-- f takes every line over 80 bytes for the same
+same-kept : {A : Type 0} (f : List ℕ → A) (z : A)
+    → ((w : List ℕ) → longest < length w → z ≡ f w)
+    → (w : List ℕ) → f (take keeps w) ≡ f w
+same-kept f z k w =
+    cases (λ w. f (take keeps w) ≡ f w) w (λ h. rw (take-all keeps w h)) (λ h.
     let n = length-take-le keeps w (omega arith) in
-    sym (long (take keeps w) (omega arith)) ∙ long w (omega arith))
+    sym (k (take keeps w) (omega arith)) ∙ k w (omega arith))
+
+read-kept : (w : List ℕ) → read (take keeps w) ≡ read w
+read-kept w = same-kept read Unreadable long w
+
+entry-kept : (w : List ℕ) (n : ℕ) → entry (take keeps w) n ≡ entry w n
+entry-kept w n = same-kept (λ w. entry w n) Stray (λ w. long-entry w n) w
+
+after-kept : (w : List ℕ) (i : ℕ) (word : List ℕ) → i + length word ≤ keeps
+    → after (take keeps w) i word ≡ after w i word
+unfolding after byteAt
+after-kept w i [] h = refl
+after-kept w i (b ∷ word) h =
+    rw (getD-take keeps w i 256 (omega arith), after-kept w (i + 1) word (omega arith))
+
+export-kept : (w : List ℕ) → isExport (take keeps w) ≡ isExport w
+unfolding isExport
+export-kept w = rw (after-kept w 0 (bytes "node=") (omega arith))
 
 empty-kept : (w : List ℕ) → eqb (length (take keeps w)) 0 ≡ eqb (length w) 0
 empty-kept w =
-    cases (λ w. eqb (length (take keeps w)) 0 ≡ eqb (length w) 0) w (λ h. rw (take-all keeps w h))
-    (λ h.
-    let n = length-take-le keeps w (omega arith) in
-    ne-eqb (length (take keeps w)) 0 (λ q. omega arith)
-    ∙ sym (ne-eqb (length w) 0 (λ q. omega arith)))
+    same-kept (λ w. eqb (length w) 0) false (λ w h. sym (ne-eqb (length w) 0 (λ q. omega arith))) w
 
 one-more : (w : List ℕ) (b : ℕ) → take keeps (take keeps w ++ (b ∷ [])) ≡ take keeps (w ++ (b ∷ []))
 one-more w b =
@@ -51,22 +74,27 @@ one-more w b =
     ∙ take-take keeps keeps w (omega arith)
     ∙ sym (take-append-le keeps w (b ∷ []) (omega arith)))
 
-pub kept : (s : State) (w input : List ℕ) → answers s (take keeps w) input ≡ answers s w input
-unfolding answers
-kept s w [] = rw (read-kept w, empty-kept w)
-kept s w (b ∷ input) =
-    let e =
-    sym (kept s (take keeps w ++ (b ∷ [])) input)
-    ∙ ap (λ (l : List ℕ). answers s l input) (one-more w b)
-    ∙ kept s (w ++ (b ∷ [])) input in
-    rw (read-kept w, e)
+answer-kept : (a : Awaits) (w : List ℕ) → answer a (take keeps w) ≡ answer a w
+unfolding answer
+answer-kept opening w = rw (read-kept w)
+answer-kept (second s) w = rw (export-kept w, entry-kept w 0, read-kept w)
+answer-kept (export s ls rs) w = rw (entry-kept w (length ls))
+answer-kept (steps s) w = rw (read-kept w)
+answer-kept nothing w = refl
 
-pub kept-first : (w input : List ℕ) → opening (take keeps w) input ≡ opening w input
-unfolding opening
-kept-first w [] = rw (read-kept w)
-kept-first w (b ∷ input) =
+bare-kept : (a : Awaits) (w : List ℕ) → bare a (take keeps w) ≡ bare a w
+bare-kept opening w = refl
+bare-kept (second s) w = empty-kept w
+bare-kept (export s ls rs) w = empty-kept w
+bare-kept (steps s) w = empty-kept w
+bare-kept nothing w = refl
+
+pub kept : (a : Awaits) (w input : List ℕ) → reads a (take keeps w) input ≡ reads a w input
+unfolding reads
+kept a w [] = rw (answer-kept a w, bare-kept a w)
+kept a w (b ∷ input) =
     let e =
-    sym (kept-first (take keeps w ++ (b ∷ [])) input)
-    ∙ ap (λ (l : List ℕ). opening l input) (one-more w b)
-    ∙ kept-first (w ++ (b ∷ [])) input in
-    rw (read-kept w, e)
+    sym (kept a (take keeps w ++ (b ∷ [])) input)
+    ∙ ap (λ (l : List ℕ). reads a l input) (one-more w b)
+    ∙ kept a (w ++ (b ∷ [])) input in
+    rw (answer-kept a w, e)

@@ -2,7 +2,7 @@
 -- is read, then what they say is done.
 use Prim.Native.Nat.{ℕ}
 use mathlib.Core.Bool.{Bool, true, false, false≢true}
-use mathlib.Core.Path.{_≡_, refl, ap, _∙_}
+use mathlib.Core.Path.{_≡_, refl, sym, ap, _∙_}
 use mathlib.Core.List.{List, [], _∷_, _++_, append-nil}
 use lib.Dec.{eqb}
 use lib.Seq.{append-snoc}
@@ -23,12 +23,13 @@ use Rattle.rules.specs.Schedules.{follow, schedule, collects}
 use Rattle.text.specs.Bytes.{bytes}
 use Rattle.text.specs.Grammar.{byteAt, after, isDigit, digitsAt, numberAt, sideAt, lettersAt}
 use Rattle.text.specs.Grammar.{turnsAt, placeAt, takeLine, linkLine, shadeLine, lookLine}
-use Rattle.text.specs.Grammar.{collectLine, firstLine, counted, read}
+use Rattle.text.specs.Grammar.{collectLine, firstLine, counted, read, isExport}
 use Rattle.text.specs.Answers.{digitOf, decimal, said}
 use Rattle.text.specs.declared.Said.{Said}
 use Rattle.text.specs.declared.Said.the-variants.{First, Do, Collect}
 use Rattle.lines.specs.Lines.{startOf, collected, later, first as firstly}
-use Rattle.transcript.specs.Transcript.{printed, newline, answers, opening, transcript}
+use Rattle.transcript.specs.Transcript.{printed, newline, Awaits, opening, second, steps}
+use Rattle.transcript.specs.Transcript.{answer, reads, transcript}
 
 -- a line without a newline in it
 unfoldable plain : List ℕ → Bool
@@ -45,45 +46,21 @@ unfoldable replies : State → List Said → List ℕ
 replies s [] = []
 replies s (a ∷ said) = printed (later a s) ++ replies (later a s .state) said
 
-answers-line : (s : State) (w line rest : List ℕ) → plain w ≡ true
-    → answers s line (w ++ newline ∷ rest)
-    ≡ printed (later (read (line ++ w)) s) ++ answers (later (read (line ++ w)) s .state) []
-    rest
-unfolding answers plain pick
-answers-line s [] line rest h = rw append-nil
-answers-line s (b ∷ w) line rest h = go (eqb b newline) refl
-    (answers-line s w (line ++ (b ∷ [])) rest) h
-  where
-    go : (t : Bool) → eqb b newline ≡ t
-        → (plain w ≡ true → answers s (line ++ (b ∷ [])) (w ++ newline ∷ rest)
-        ≡ printed (later (read (line ++ (b ∷ []) ++ w)) s) ++ answers
-        (later (read (line ++ (b ∷ []) ++ w)) s .state) [] rest)
-        → plain (b ∷ w) ≡ true
-        → answers s line (b ∷ (w ++ newline ∷ rest))
-        ≡ printed (later (read (line ++ b ∷ w)) s) ++ answers
-        (later (read (line ++ b ∷ w)) s .state) [] rest
-    go true e f h = absurd (false≢true (rw e at h))
-    go false e f h = rw (e, ← append-snoc line b w) (f (rw e at h))
-
-opening-line : (w line rest : List ℕ) → plain w ≡ true
-    → opening line (w ++ newline ∷ rest)
-    ≡ printed (firstly (read (line ++ w))) ++ pick (eqb (firstly (read (line ++ w)) .code) 0)
-    (answers (firstly (read (line ++ w)) .state) [] rest) []
-unfolding opening plain pick
-opening-line [] line rest h = rw append-nil
-opening-line (b ∷ w) line rest h = go (eqb b newline) refl (opening-line w (line ++ (b ∷ [])) rest)
+reads-line : (a : Awaits) (w line rest : List ℕ) → plain w ≡ true
+    → reads a line (w ++ newline ∷ rest)
+    ≡ answer a (line ++ w) .out ++ reads (answer a (line ++ w) .next) [] rest
+unfolding reads plain pick
+reads-line a [] line rest h = rw append-nil
+reads-line a (b ∷ w) line rest h = go (eqb b newline) refl (reads-line a w (line ++ (b ∷ [])) rest)
     h
   where
     go : (t : Bool) → eqb b newline ≡ t
-        → (plain w ≡ true → opening (line ++ (b ∷ [])) (w ++ newline ∷ rest)
-        ≡ printed (firstly (read (line ++ (b ∷ []) ++ w))) ++ pick
-        (eqb (firstly (read (line ++ (b ∷ []) ++ w)) .code) 0)
-        (answers (firstly (read (line ++ (b ∷ []) ++ w)) .state) [] rest) [])
+        → (plain w ≡ true → reads a (line ++ (b ∷ [])) (w ++ newline ∷ rest)
+        ≡ answer a (line ++ (b ∷ []) ++ w) .out ++ reads
+        (answer a (line ++ (b ∷ []) ++ w) .next) [] rest)
         → plain (b ∷ w) ≡ true
-        → opening line (b ∷ (w ++ newline ∷ rest))
-        ≡ printed (firstly (read (line ++ b ∷ w))) ++ pick
-        (eqb (firstly (read (line ++ b ∷ w)) .code) 0)
-        (answers (firstly (read (line ++ b ∷ w)) .state) [] rest) []
+        → reads a line (b ∷ (w ++ newline ∷ rest))
+        ≡ answer a (line ++ b ∷ w) .out ++ reads (answer a (line ++ b ∷ w) .next) [] rest
     go true e f h = absurd (false≢true (rw e at h))
     go false e f h = rw (e, ← append-snoc line b w) (f (rw e at h))
 
@@ -93,12 +70,19 @@ data Says : List (List ℕ) → List Said → Type 0 where
   more : {w : List ℕ} {a : Said} {ws : List (List ℕ)} {said : List Said} → plain w ≡ true → read w
       ≡ a → Says ws said → Says (w ∷ ws) (a ∷ said)
 
-answers-lines : {ws : List (List ℕ)} {said : List Said} (s : State) → Says ws said
-    → answers s [] (lines ws) ≡ replies s said
-unfolding answers replies pick
-answers-lines s none = refl
-answers-lines s (more {w} {a} {ws} p e r) = answers-line s w [] (lines ws) p
-    ∙ rw e (ap (λ (o : List ℕ). printed (later a s) ++ o) (answers-lines (later a s .state) r))
+steps-lines : {ws : List (List ℕ)} {said : List Said} (s : State) → Says ws said
+    → reads (steps s) [] (lines ws) ≡ replies s said
+unfolding reads answer replies pick
+steps-lines s none = refl
+steps-lines s (more {w} {a} {ws} p e r) = reads-line (steps s) w [] (lines ws) p
+    ∙ rw e (ap (λ (o : List ℕ). printed (later a s) ++ o) (steps-lines (later a s .state) r))
+
+-- the line after the first is a step
+second-line : (s : State) (w rest : List ℕ) → plain w ≡ true → isExport w ≡ false
+    → reads (second s) [] (w ++ newline ∷ rest) ≡ reads (steps s) [] (w ++ newline ∷ rest)
+unfolding answer pick
+second-line s w rest p e =
+    reads-line (second s) w [] rest p ∙ rw e (sym (reads-line (steps s) w [] rest p))
 
 -- a place: slot 0, so many turns
 abbrev at : ℕ → ℕ → Place
@@ -132,15 +116,15 @@ told =
     bytes "code=0 node=3" ∷
     []
 
-steps : List Said
-steps =
+sayings : List Said
+sayings =
     Do (taking (at 0 0) 0) ∷ Do (taking (at 0 0) 1) ∷ Do (taking (at 0 0) 0) ∷ Do
     (linking (at 0 0) 0 (at 1 1)) ∷ Do shading ∷ Collect 62 ∷ Do (looking (at 1 0)) ∷ Do
     (taking (at 1 0) 1) ∷ []
 
-says : Says later-lines steps
+says : Says later-lines sayings
 unfolding pick every byteAt after isDigit digitsAt numberAt sideAt lettersAt turnsAt placeAt
-    takeLine linkLine shadeLine lookLine collectLine firstLine counted read steps plain
+    takeLine linkLine shadeLine lookLine collectLine firstLine counted read sayings plain
 says =
     more refl refl
     (more refl refl
@@ -152,19 +136,20 @@ unfolding pick every byteAt after isDigit digitsAt numberAt sideAt lettersAt tur
     takeLine linkLine shadeLine lookLine collectLine firstLine counted read
 opens = refl
 
-done : printed (firstly (First 5 1)) ++ replies (firstly (First 5 1) .state) steps ≡ lines told
+done : printed (firstly (First 5 1)) ++ replies (firstly (First 5 1) .state) sayings ≡ lines told
 unfolding pick every first unless edgeOf withEdge cleared shadeIn badEdge oneMore afterAppend sizeOk
     phaseOk owedOk lastOk bound cycleOk toldOk countsOk recordOk checkOf tabulate nextFree freshLeft
     freshLast
     freshState fresh sidesOk turnsOk placeCode walkFrom arrive sideCode owedCode look depart linkTo
     link pay shadeOwed badFree relink takeNext takeFirst take shadeStep afterRoots scanStep edgeStep
     blackStep append appendWhite appendStep phaseStep collect step run follow schedule collects
-    digitOf decimal said startOf collected later firstly steps replies
+    digitOf decimal said startOf collected later firstly sayings replies
 done = refl
 
 pub listing : transcript (lines given) ≡ lines told
-unfolding pick plain fresh sizeOk every firstly
+unfolding pick plain fresh sizeOk every firstly answer isExport after byteAt
 listing =
-    opening-line (bytes "nodes=5 slots=1") [] (lines later-lines) refl
+    reads-line opening (bytes "nodes=5 slots=1") [] (lines later-lines) refl
     ∙ rw opens (ap (λ (o : List ℕ). printed (firstly (First 5 1)) ++ o)
-    (answers-lines (firstly (First 5 1) .state) says) ∙ done)
+    (second-line (firstly (First 5 1) .state) (bytes "op=take slot=0 turns=- side=L") _ refl refl
+    ∙ steps-lines (firstly (First 5 1) .state) says) ∙ done)

@@ -1,22 +1,26 @@
 -- The program as it reads and prints: blocks of the input, as they come, to the output of each. All
--- is in buffers: the program's own tables, the line at hand and the output.
+-- is in buffers: the program's own tables, the lists of an export's edges, the line at hand and the
+-- output.
 use Rattle.base.specs.Choice.{pick}
 use Prim.Native.Nat.{ℕ, _+_, _-_}
 use mathlib.Core.Bool.{Bool, true, false}
 use mathlib.Core.List.{List, [], _∷_, _++_}
-use lib.ListN.{length, getD, take, drop}
+use lib.ListN.{length, getD, set, take, drop}
 use lib.Dec.{ltb, eqb}
 use Rattle.rules.specs.Table.{State, state}
 use Rattle.rules.specs.Records.{freshRecord}
-use Rattle.text.specs.Grammar.{read}
+use Rattle.text.specs.Grammar.{read, isExport, entry}
 use Rattle.text.specs.Answers.{Written, written, contents, putAll}
-use Rattle.lines.specs.Lines.{later, opened}
+use Rattle.text.specs.declared.Listed.{Listed}
+use Rattle.text.specs.declared.Listed.the-variants.{Edges, Stray}
+use Rattle.lines.specs.Lines.{Line, prints, later, opened, loaded}
 use Rattle.transcript.specs.Transcript.{printed, newline}
 use Rattle.transcript.specs.declared.Run.{Run}
 use Rattle.transcript.specs.declared.Fed.{Fed}
 use Rattle.transcript.specs.declared.Session.{Session}
 use Rattle.transcript.specs.declared.Stage.{Stage}
-use Rattle.transcript.specs.declared.Stage.the-variants.{Opening, Serving, Over}
+use Rattle.transcript.specs.declared.Stage.the-variants.{Opening, Second, Loading, Serving}
+use Rattle.transcript.specs.declared.Stage.the-variants.{Over, Stopped}
 
 -- the bytes of a line that are kept: one more than a line may have
 abbrev pub keeps : ℕ
@@ -45,11 +49,18 @@ going g l r c line out = record {
 abbrev pub gathered : Going → List ℕ → Going
 gathered g bytes = record { state = g .state; line = putAll (g .line) bytes; out = g .out }
 
+-- the line at hand prints this, and the next begins
+abbrev pub prints-so : Going → Line → Going
+prints-so g t = record {
+  state =
+      t .state;
+  line = written (g .line .out) 0;
+  out = putAll (g .out) (printed t);
+}
+
 -- the line at hand is at its end: it is answered, and the next begins
 unfoldable pub ended : Going → Going
-ended g =
-    let t = later (read (contents (g .line))) (g .state) in
-    record { state = t .state; line = written (g .line .out) 0; out = putAll (g .out) (printed t) }
+ended g = prints-so g (later (read (contents (g .line))) (g .state))
 
 unfoldable pub nextByte : Going → ℕ → Going
 nextByte g b = pick (eqb b newline) (ended g) (gathered g (b ∷ []))
@@ -77,24 +88,29 @@ nextLine input i g =
     let h = gathered g (take (n - i) (drop i input)) in
     pick (ltb n (length input)) (taken (n + 1) (ended h)) (taken n h)
 
--- all that a block finds and leaves: whether the first line is awaited, the table is served or the
--- run is over; the table, which is in the first entries of the program's own, with the line and the
--- output; and what lies behind it in the program's own tables
+-- all that a block finds and leaves: which line comes; the table, which is in the first entries of
+-- the program's own, with the line and the output; what lies behind it in the program's own tables;
+-- and the lists of an export's edges
 pub record Stand : Type 0 where
   pub stage : Stage
   pub going : Going
   pub left : List ℕ
   pub right : List ℕ
   pub colour : List ℕ
+  pub lefts : List ℕ
+  pub rights : List ℕ
 
 -- the entries that the table has of the program's own
 abbrev pub held : Stage → ℕ
 held Opening = 0
+held (Second m) = m
+held (Loading m n) = m
 held (Serving m) = m
 held Over = 0
+held (Stopped m) = m
 
-abbrev pub placed : Stage → State → Written → Written → Stand
-placed stage s line out =
+abbrev pub placed : Stage → State → List ℕ → List ℕ → Written → Written → Stand
+placed stage s lefts rights line out =
     let m = held stage in
     let l = getD (s .edges) 0 [] in
     let k = getD (s .edges) 1 [] in
@@ -109,35 +125,98 @@ placed stage s line out =
       left = drop m l;
       right = drop m k;
       colour = drop m (s .colour);
+      lefts = lefts;
+      rights = rights;
     }
 
-abbrev pub stand : Session → List ℕ → List ℕ → List ℕ → List ℕ → List ℕ → Stand
-stand s l r c line out =
-    placed (s .stage) (state l r c (s .run .rec)) (written line (s .run .at))
+abbrev pub stand : Session → List ℕ → List ℕ → List ℕ → List ℕ → List ℕ → List ℕ → List ℕ → Stand
+stand s l r c lefts rights line out =
+    placed (s .stage) (state l r c (s .run .rec)) lefts rights (written line (s .run .at))
     (written out (s .run .used))
 
--- the same with other lines
-abbrev pub turned : Stand → Going → Stand
-turned s g = record {
+-- the same in another stage, with other lines
+abbrev pub moved : Stage → Going → Stand → Stand
+moved stage g s = record {
   stage =
-      s .stage;
+      stage;
   going = g;
   left = s .left;
   right = s .right;
   colour = s .colour;
+  lefts = s .lefts;
+  rights = s .rights;
 }
 
--- [Program 10] the first line is at its end: it is answered, and ends the run where it is refused
+abbrev pub turned : Stand → Going → Stand
+turned s g = moved (s .stage) g s
+
+-- the first line is at its end: [Program 10] it is answered, and ends the run where it is refused
 unfoldable pub begun : Stand → Stand
 begun s =
     let t = opened (read (contents (s .going .line))) (s .left) (s .right) (s .colour) in
-    placed (pick (eqb (t .code) 0) (Serving (t .state .rec .m)) Over) (t .state)
-    (written (s .going .line .out) 0) (putAll (s .going .out) (printed t))
+    placed (pick (eqb (t .code) 0) (Second (t .state .rec .m)) Over) (t .state) (s .lefts)
+    (s .rights) (written (s .going .line .out) 0) (putAll (s .going .out) (printed t))
+
+-- [Program 21] the export ends the run
+abbrev pub stopped : ℕ → Stand → Stand
+stopped m s = moved (Stopped m) (prints-so (s .going) (prints 10 0 (s .going .state))) s
+
+-- [Program 20] all lines of an export are read: Load answers
+unfoldable pub filled : ℕ → Stand → Stand
+filled m s =
+    let n = s .going .state .rec .m in
+    let t = loaded (take n (s .lefts)) (take n (s .rights)) (s .going .state) in
+    moved (pick (eqb (t .code) 0) (Serving m) (Stopped m)) (prints-so (s .going) t) s
+
+-- the edges of node n
+abbrev pub noted : ℕ → ℕ → ℕ → Stand → Stand
+noted n l r s = record {
+  stage =
+      s .stage;
+  going = s .going;
+  left = s .left;
+  right = s .right;
+  colour = s .colour;
+  lefts = set (s .lefts) n l;
+  rights = set (s .rights) n r;
+}
+
+-- the line at hand is dropped without an answer
+abbrev pub dropped : Going → Going
+dropped g = record { state = g .state; line = written (g .line .out) 0; out = g .out }
+
+-- line n of an export is at its end
+unfoldable pub noting : ℕ → ℕ → Listed → Stand → Stand
+noting m n (Edges l r) s =
+    pick (ltb (n + 1) (s .going .state .rec .m))
+    (moved (Loading m (n + 1)) (dropped (s .going)) (noted n l r s))
+    (filled m (noted n l r s))
+noting m n Stray s = stopped m s
+
+-- the line at hand is at its end
+unfoldable pub lineEnded : Stage → Stand → Stand
+lineEnded Opening s = begun s
+lineEnded (Second m) s =
+    let line = contents (s .going .line) in
+    pick (isExport line) (noting m 0 (entry line 0) s) (moved (Serving m) (ended (s .going)) s)
+lineEnded (Loading m n) s = noting m n (entry (contents (s .going .line)) n) s
+lineEnded (Serving m) s = moved (Serving m) (ended (s .going)) s
+lineEnded Over s = s
+lineEnded (Stopped m) s = s
+
+-- whether the run is over: the first line was refused, or the export
+abbrev pub isOver : Stage → Bool
+isOver Opening = false
+isOver (Second m) = false
+isOver (Loading m n) = false
+isOver (Serving m) = false
+isOver Over = true
+isOver (Stopped m) = true
 
 unfoldable pub eaten : Stage → Stand → ℕ → Stand
-eaten Opening s b = pick (eqb b newline) (begun s) (turned s (gathered (s .going) (b ∷ [])))
-eaten (Serving m) s b = turned s (nextByte (s .going) b)
-eaten Over s b = s
+eaten stage s b =
+    pick (isOver stage) s
+    (pick (eqb b newline) (lineEnded stage s) (turned s (gathered (s .going) (b ∷ []))))
 
 -- a byte more
 abbrev pub eats : Stand → ℕ → Stand
@@ -161,13 +240,27 @@ block input s = fold eats input (emptied s)
 -- no line is at hand; the first one is, even where it has no byte
 abbrev pub bare : Stage → ℕ → Bool
 bare Opening at = false
+bare (Second m) at = eqb at 0
+bare (Loading m n) at = eqb at 0
 bare (Serving m) at = eqb at 0
 bare Over at = true
+bare (Stopped m) at = true
+
+-- [Program 21] the input is at its end while an export is not
+abbrev pub closed : Stage → Stand → Stand
+closed Opening s = s
+closed (Second m) s = s
+closed (Loading m n) s = stopped m s
+closed (Serving m) s = s
+closed Over s = s
+closed (Stopped m) s = s
 
 -- [Program 11] [Program 12] the end of the input ends the line at hand, and a first line that is
 -- empty too
 unfoldable pub finish : Stand → Stand
-finish s = pick (bare (s .stage) (s .going .line .used)) (emptied s) (block (newline ∷ []) s)
+finish s =
+    let t = pick (bare (s .stage) (s .going .line .used)) (emptied s) (block (newline ∷ []) s) in
+    closed (t .stage) t
 
 -- what a read delivered: a block of n bytes, or none, which is the end of the input
 unfoldable pub turn : ℕ → List ℕ → Stand → Stand
@@ -177,11 +270,14 @@ turn n input s = pick (eqb n 0) (finish s) (block (take n input) s)
 abbrev pub shown : Stand → List ℕ
 shown s = contents (s .going .out)
 
--- whether the run is over, since the first line was refused
-abbrev pub isOver : Stage → Bool
-isOver Opening = false
-isOver (Serving m) = false
-isOver Over = true
+-- whether the run is over since the export was refused
+abbrev pub isStopped : Stage → Bool
+isStopped Opening = false
+isStopped (Second m) = false
+isStopped (Loading m n) = false
+isStopped (Serving m) = false
+isStopped Over = false
+isStopped (Stopped m) = true
 
 -- before the first byte
 abbrev pub started : Session

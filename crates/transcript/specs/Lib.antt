@@ -1,2 +1,3 @@
 pub mod Transcript
 pub mod Feeding
+pub mod Leads

@@ -4,17 +4,22 @@ use lines::Told;
 use rules::Owed;
 use rules::Phase;
 use rules::Record;
+use text::Listed;
 ghost use mathlib.Core.Path.{_≡_};
 ghost use mathlib.Core.List.{List};
-ghost use Prim.Native.Nat.{ℕ, _<_, min};
-ghost use lib.ListN.{length, take, drop};
+ghost use mathlib.Core.Bool.{true};
+ghost use Prim.Native.Nat.{ℕ, _+_, _<_, min};
+ghost use lib.ListN.{length, getD, set, take, drop};
+ghost use lib.Dec.{ltb};
 ghost use Rattle.rules.specs.Table.{state};
-ghost use Rattle.text.specs.Grammar.{read};
+ghost use Rattle.text.specs.Grammar.{read, isExport, entry};
 ghost use Rattle.text.specs.Answers.{written};
-ghost use Rattle.lines.specs.Lines.{prints, later};
+ghost use Rattle.lines.specs.Lines.{prints, later, loaded};
 ghost use Rattle.transcript.specs.Feeding.{fold, going, ended, nextByte, fed, newlineFrom};
-ghost use Rattle.transcript.specs.Feeding.{nextLine, placed, stand, begun, eats, emptied};
-ghost use Rattle.transcript.specs.Feeding.{block, bare, finish, turn, isOver, started};
+ghost use Rattle.transcript.specs.Feeding.{nextLine, placed, stand, begun, stopped, filled};
+ghost use Rattle.transcript.specs.Feeding.{noting, eats, emptied, block, bare, closed};
+ghost use Rattle.transcript.specs.Feeding.{finish, turn, isOver, isStopped, started};
+ghost use Rattle.transcript.specs.Leads.{Leads, Replaces};
 ghost use Rattle.base.specs.Lent.{was, is};
 ghost use Rattle.rules.specs.Lent.{given};
 
@@ -37,18 +42,28 @@ pub struct Fed {
     pub run: Run,
 }
 
-// The first line is awaited; a table of so many nodes is served; the run is over, since the first
-// line is refused.
+// The first line is awaited; there is a table of so many nodes, and a step is awaited or line 0 of
+// an export; line n of an export; a step; the run is over, since the first line is refused; it is
+// over, since the export is.
 pub enum Stage {
     Opening,
+    Second(usize),
+    Loading(usize, usize),
     Serving(usize),
     Over,
+    Stopped(usize),
 }
 
 // What goes on from block to block beside the buffers.
 pub struct Session {
     pub stage: Stage,
     pub run: Run,
+}
+
+// The position of the next byte, and where the session stands then.
+pub struct Led {
+    pub next: usize,
+    pub s: Session,
 }
 
 fn least(a: usize, b: usize) -> usize
@@ -181,10 +196,11 @@ fn serve(
     input: &[u8],
     i: usize,
 ) -> Session
-    ensures { λ s. ⌜ stand s (is left) (is right) (is colour) (is line) (is out)
+    ensures { λ s. ⌜ ((ls rs : List ℕ)
+        → stand s (is left) (is right) (is colour) ls rs (is line) (is out)
         ≡ fold eats (drop i (was input))
-        (placed (Stage.Serving m) (given left right colour (g .rec))
-        (written (was line) (g .at)) (written (was out) (g .used))) ⌝ }
+        (placed (Stage.Serving m) (given left right colour (g .rec)) ls rs
+        (written (was line) (g .at)) (written (was out) (g .used)))) ⌝ }
 {
     let a = least(m, left.len());
     let b = least(m, right.len());
@@ -203,8 +219,7 @@ fn serve(
     Session { stage, run }
 }
 
-// The first line is at its end: it is answered, and the table that it begins is served unless it is
-// refused.
+// The first line is at its end: it is answered, and begins a table unless it is refused.
 fn begin(
     left: &mut [u16],
     right: &mut [u16],
@@ -213,9 +228,10 @@ fn begin(
     out: &mut [u8],
     g: Run,
 ) -> Session
-    ensures { λ s. ⌜ stand s (is left) (is right) (is colour) (was line) (is out)
-        ≡ begun (placed Stage.Opening (given left right colour (g .rec))
-        (written (was line) (g .at)) (written (was out) (g .used))) ⌝ }
+    ensures { λ s. ⌜ ((ls rs : List ℕ)
+        → stand s (is left) (is right) (is colour) ls rs (was line) (is out)
+        ≡ begun (placed Stage.Opening (given left right colour (g .rec)) ls rs
+        (written (was line) (g .at)) (written (was out) (g .used)))) ⌝ }
 {
     let end = least(g.at, line.len());
     let told = lines::first(left, right, colour, &line[0..end]);
@@ -226,69 +242,323 @@ fn begin(
         let stage = Stage::Over;
         return Session { stage, run };
     }
-    let stage = Stage::Serving(rec.m as usize);
+    let stage = Stage::Second(rec.m as usize);
     Session { stage, run }
 }
 
-// The bytes after the first line, from position i on.
-fn go_on(
+// The export ends the run.
+fn stop(out: &mut [u8], g: Run, m: usize) -> Session
+    ensures { λ s. ⌜ ((l r c ls rs line : List ℕ) → stand s l r c ls rs line (is out)
+        ≡ stopped m (placed (Stage.Serving m) (state l r c (g .rec)) ls rs
+        (written line (g .at)) (written (was out) (g .used)))) ⌝ }
+{
+    let used = text::say(out, g.used, 10, 0);
+    let rec = g.rec;
+    let run = Run { rec, at: 0, used };
+    let stage = Stage::Stopped(m);
+    Session { stage, run }
+}
+
+// Load of the first n edges of the lists, in the first m entries of the tables.
+fn load_part(
     left: &mut [u16],
     right: &mut [u16],
     colour: &mut [u8],
+    lefts: &[u32],
+    rights: &[u32],
+    x: Record,
+    m: usize,
+    n: usize,
+) -> Told
+    ensures { λ t. ⌜ Replaces m (loaded (take n (was lefts)) (take n (was rights)))
+        (given left right colour x) (t .code) (t .node)
+        (state (is left) (is right) (is colour) (t .rec)) ⌝ }
+{
+    let a = least(m, left.len());
+    let b = least(m, right.len());
+    let c = least(m, colour.len());
+    let d = least(n, lefts.len());
+    let e = least(n, rights.len());
+    lines::load(
+        &lefts[0..d],
+        &rights[0..e],
+        &mut left[0..a],
+        &mut right[0..b],
+        &mut colour[0..c],
+        x,
+    )
+}
+
+// All lines of an export are read: Load answers, and its table is served unless it is refused.
+fn fill(
+    left: &mut [u16],
+    right: &mut [u16],
+    colour: &mut [u8],
+    lefts: &[u32],
+    rights: &[u32],
+    out: &mut [u8],
+    g: Run,
+    m: usize,
+) -> Session
+    ensures { λ s. ⌜ ((line : List ℕ)
+        → stand s (is left) (is right) (is colour) (was lefts) (was rights) line (is out)
+        ≡ filled m (placed (Stage.Serving m) (given left right colour (g .rec))
+        (was lefts) (was rights) (written line (g .at)) (written (was out) (g .used)))) ⌝ }
+{
+    let x = g.rec;
+    let n = x.m;
+    let answer = load_part(left, right, colour, lefts, rights, x, m, n as usize);
+    let used = text::say(out, g.used, answer.code, answer.node);
+    let rec = answer.rec;
+    let run = Run { rec, at: 0, used };
+    if answer.code != 0 {
+        let stage = Stage::Stopped(m);
+        return Session { stage, run };
+    }
+    let stage = Stage::Serving(m);
+    Session { stage, run }
+}
+
+fn keep(list: &mut [u32], n: usize, e: u32)
+    ensures { λ _. ⌜ is list ≡ set (was list) n e ⌝ }
+{
+    if n < list.len() {
+        list[n] = e;
+    }
+}
+
+// Whether more lines follow line n of an export of m.
+fn more(m: u16, n: usize) -> bool
+    ensures { λ r. ⌜ (r ≡ ltb (n + 1) m) × (r ≡ true → n < 65535) ⌝ }
+{
+    let all = m as usize;
+    if all <= n {
+        return false;
+    }
+    if all - n <= 1 {
+        return false;
+    }
+    true
+}
+
+// Line n of an export has these edges.
+fn note(
+    left: &mut [u16],
+    right: &mut [u16],
+    colour: &mut [u8],
+    lefts: &mut [u32],
+    rights: &mut [u32],
+    out: &mut [u8],
+    g: Run,
+    m: usize,
+    n: usize,
+    l: u32,
+    r: u32,
+) -> Session
+    ensures { λ s. ⌜ ((line : List ℕ)
+        → stand s (is left) (is right) (is colour) (is lefts) (is rights) line (is out)
+        ≡ noting m n (Listed.Edges l r) (placed (Stage.Serving m)
+        (given left right colour (g .rec)) (was lefts) (was rights) (written line (g .at))
+        (written (was out) (g .used)))) ⌝ }
+{
+    keep(lefts, n, l);
+    keep(rights, n, r);
+    let rec = g.rec;
+    if more(rec.m, n) {
+        let run = Run {
+            rec,
+            at: 0,
+            used: g.used,
+        };
+        let stage = Stage::Loading(m, n + 1);
+        return Session { stage, run };
+    }
+    fill(left, right, colour, lefts, rights, out, g, m)
+}
+
+// What the first at bytes of the line say, as line n of an export.
+fn entry_of(line: &[u8], at: usize, n: usize) -> Listed
+    ensures { λ r. ⌜ r ≡ entry (take at (was line)) n ⌝ }
+{
+    let end = least(at, line.len());
+    text::entry(&line[0..end], n)
+}
+
+// Line n of an export is at its end.
+fn load_line(
+    left: &mut [u16],
+    right: &mut [u16],
+    colour: &mut [u8],
+    lefts: &mut [u32],
+    rights: &mut [u32],
+    line: &[u8],
+    out: &mut [u8],
+    g: Run,
+    m: usize,
+    n: usize,
+) -> Session
+    ensures { λ s. ⌜ stand s (is left) (is right) (is colour) (is lefts) (is rights) (was line)
+        (is out)
+        ≡ noting m n (entry (take (g .at) (was line)) n) (placed (Stage.Serving m)
+        (given left right colour (g .rec)) (was lefts) (was rights) (written (was line) (g .at))
+        (written (was out) (g .used))) ⌝ }
+{
+    let listed = entry_of(line, g.at, n);
+    match listed {
+        Listed::Edges(l, r) => note(left, right, colour, lefts, rights, out, g, m, n, l, r),
+        Listed::Stray => stop(out, g, m),
+    }
+}
+
+// Whether the first at bytes of the line begin an export.
+fn is_export(line: &[u8], at: usize) -> bool
+    ensures { λ r. ⌜ r ≡ isExport (take at (was line)) ⌝ }
+{
+    let end = least(at, line.len());
+    text::is_export(&line[0..end])
+}
+
+// The line after the first is at its end, at position i: it begins an export, or it is a step and
+// the table is served from here on.
+fn second(
+    left: &mut [u16],
+    right: &mut [u16],
+    colour: &mut [u8],
+    lefts: &mut [u32],
+    rights: &mut [u32],
+    line: &mut [u8],
+    out: &mut [u8],
+    g: Run,
+    m: usize,
+    input: &[u8],
+    i: usize,
+) -> Led
+    requires { ⌜ i < length (now input) ⌝ }
+    requires { ⌜ getD (now input) i 0 ≡ 10 ⌝ }
+    ensures { λ t. ⌜ Leads i (t .next) (was input)
+        (placed (Stage.Second m) (given left right colour (g .rec)) (was lefts) (was rights)
+        (written (was line) (g .at)) (written (was out) (g .used)))
+        (stand (t .s) (is left) (is right) (is colour) (is lefts) (is rights) (is line) (is out))
+        ⌝ }
+{
+    if is_export(line, g.at) {
+        let s = load_line(left, right, colour, lefts, rights, line, out, g, m, 0);
+        return Led { next: i + 1, s };
+    }
+    let s = serve(left, right, colour, line, out, g, m, input, i);
+    Led {
+        next: input.len(),
+        s,
+    }
+}
+
+// The line at hand is at its end, at position i.
+fn end_line(
+    left: &mut [u16],
+    right: &mut [u16],
+    colour: &mut [u8],
+    lefts: &mut [u32],
+    rights: &mut [u32],
     line: &mut [u8],
     out: &mut [u8],
     s: Session,
     input: &[u8],
     i: usize,
-) -> Session
-    requires { ⌜ (s .stage ≡ Stage.Opening → ⊥) ⌝ }
-    ensures { λ t. ⌜ stand t (is left) (is right) (is colour) (is line) (is out)
-        ≡ fold eats (drop i (was input))
-        (stand s (was left) (was right) (was colour) (was line) (was out)) ⌝ }
+) -> Led
+    requires { ⌜ i < length (now input) ⌝ }
+    requires { ⌜ getD (now input) i 0 ≡ 10 ⌝ }
+    ensures { λ t. ⌜ Leads i (t .next) (was input)
+        (stand s (was left) (was right) (was colour) (was lefts) (was rights) (was line) (was out))
+        (stand (t .s) (is left) (is right) (is colour) (is lefts) (is rights) (is line) (is out))
+        ⌝ }
 {
     let stage = s.stage;
-    let run = s.run;
+    let g = s.run;
     match stage {
-        Stage::Opening => s,
-        Stage::Serving(m) => serve(left, right, colour, line, out, run, m, input, i),
-        Stage::Over => s,
+        Stage::Opening => Led {
+            next: i + 1,
+            s: begin(left, right, colour, line, out, g),
+        },
+        Stage::Second(m) => {
+            second(
+                left,
+                right,
+                colour,
+                lefts,
+                rights,
+                line,
+                out,
+                g,
+                m,
+                input,
+                i,
+            )
+        }
+        Stage::Loading(m, n) => Led {
+            next: i + 1,
+            s: load_line(left, right, colour, lefts, rights, line, out, g, m, n),
+        },
+        Stage::Serving(m) => Led {
+            next: input.len(),
+            s: serve(left, right, colour, line, out, g, m, input, i),
+        },
+        Stage::Over => Led {
+            next: input.len(),
+            s,
+        },
+        Stage::Stopped(_) => Led {
+            next: input.len(),
+            s,
+        },
     }
 }
 
-// A block while the first line is awaited.
-fn opening(
+// The bytes from position i on up to a newline, and what follows from it; or all that are left.
+fn lead(
     left: &mut [u16],
     right: &mut [u16],
     colour: &mut [u8],
+    lefts: &mut [u32],
+    rights: &mut [u32],
     line: &mut [u8],
     out: &mut [u8],
-    g: Run,
+    s: Session,
     input: &[u8],
-) -> Session
-    ensures { λ s. ⌜ stand s (is left) (is right) (is colour) (is line) (is out)
-        ≡ fold eats (was input) (placed Stage.Opening (given left right colour (g .rec))
-        (written (was line) (g .at)) (written (was out) (g .used))) ⌝ }
+    i: usize,
+) -> Led
+    requires { ⌜ i < length (now input) ⌝ }
+    ensures { λ t. ⌜ Leads i (t .next) (was input)
+        (stand s (was left) (was right) (was colour) (was lefts) (was rights) (was line) (was out))
+        (stand (t .s) (is left) (is right) (is colour) (is lefts) (is rights) (is line) (is out))
+        ⌝ }
 {
-    let end = newline_from(input, 0);
-    let at = text::put_all(line, g.at, &input[0..end]);
+    if is_over(s) {
+        return Led {
+            next: input.len(),
+            s,
+        };
+    }
+    let g = s.run;
+    let end = newline_from(input, i);
+    let at = text::put_all(line, g.at, &input[i..end]);
     let rec = g.rec;
     let run = Run {
         rec,
         at,
         used: g.used,
     };
+    let stage = s.stage;
+    let t = Session { stage, run };
     if end < input.len() {
-        let s = begin(left, right, colour, line, out, run);
-        return go_on(left, right, colour, line, out, s, input, end + 1);
+        return end_line(left, right, colour, lefts, rights, line, out, t, input, end);
     }
-    let stage = Stage::Opening;
-    Session { stage, run }
+    Led { next: end, s: t }
 }
 
 // The output is empty again.
 fn emptied(s: Session) -> Session
-    ensures { λ t. ⌜ ((l r c line out : List ℕ) → stand t l r c line out
-        ≡ emptied (stand s l r c line out)) ⌝ }
+    ensures { λ t. ⌜ ((l r c ls rs line out : List ℕ) → stand t l r c ls rs line out
+        ≡ emptied (stand s l r c ls rs line out)) ⌝ }
 {
     let g = s.run;
     let rec = g.rec;
@@ -326,15 +596,33 @@ pub fn start() -> Session
     Session { stage, run }
 }
 
-// Whether the run is over, since the first line was refused.
+// Whether the run is over: the first line was refused, or the export.
 pub fn is_over(s: Session) -> bool
     ensures { λ r. ⌜ r ≡ isOver (s .stage) ⌝ }
 {
     let stage = s.stage;
     match stage {
         Stage::Opening => false,
+        Stage::Second(_) => false,
+        Stage::Loading(_, _) => false,
         Stage::Serving(_) => false,
         Stage::Over => true,
+        Stage::Stopped(_) => true,
+    }
+}
+
+// Whether the run is over since the export was refused.
+pub fn is_stopped(s: Session) -> bool
+    ensures { λ r. ⌜ r ≡ isStopped (s .stage) ⌝ }
+{
+    let stage = s.stage;
+    match stage {
+        Stage::Opening => false,
+        Stage::Second(_) => false,
+        Stage::Loading(_, _) => false,
+        Stage::Serving(_) => false,
+        Stage::Over => false,
+        Stage::Stopped(_) => true,
     }
 }
 
@@ -344,22 +632,36 @@ pub fn block(
     left: &mut [u16],
     right: &mut [u16],
     colour: &mut [u8],
+    lefts: &mut [u32],
+    rights: &mut [u32],
     line: &mut [u8],
     out: &mut [u8],
     s: Session,
     input: &[u8],
 ) -> Session
-    ensures { λ t. ⌜ stand t (is left) (is right) (is colour) (is line) (is out)
-        ≡ block (was input) (stand s (was left) (was right) (was colour) (was line) (was out)) ⌝ }
+    ensures { λ t. ⌜ stand t (is left) (is right) (is colour) (is lefts) (is rights) (is line)
+        (is out) ≡ block (was input) (stand s (was left) (was right) (was colour) (was lefts)
+        (was rights) (was line) (was out)) ⌝ }
 {
-    let e = emptied(s);
-    let run = e.run;
-    let stage = e.stage;
-    match stage {
-        Stage::Opening => opening(left, right, colour, line, out, run, input),
-        Stage::Serving(m) => serve(left, right, colour, line, out, run, m, input, 0),
-        Stage::Over => e,
+    let mut t = emptied(s);
+    let mut next = 0;
+    while next < input.len() {
+        let led = lead(
+            left,
+            right,
+            colour,
+            lefts,
+            rights,
+            line,
+            out,
+            t,
+            input,
+            next,
+        );
+        t = led.s;
+        next = led.next;
     }
+    t
 }
 
 // Whether no line is at hand; the first one is, even where it has no byte.
@@ -370,8 +672,28 @@ fn bare(s: Session) -> bool
     let stage = s.stage;
     match stage {
         Stage::Opening => false,
+        Stage::Second(_) => run.at == 0,
+        Stage::Loading(_, _) => run.at == 0,
         Stage::Serving(_) => run.at == 0,
         Stage::Over => true,
+        Stage::Stopped(_) => true,
+    }
+}
+
+// The input is at its end: an export that is not ends the run.
+fn closed(out: &mut [u8], s: Session) -> Session
+    ensures { λ t. ⌜ ((l r c ls rs line : List ℕ) → stand t l r c ls rs line (is out)
+        ≡ closed (s .stage) (stand s l r c ls rs line (was out))) ⌝ }
+{
+    let run = s.run;
+    let stage = s.stage;
+    match stage {
+        Stage::Opening => s,
+        Stage::Second(_) => s,
+        Stage::Loading(m, _) => stop(out, run, m),
+        Stage::Serving(_) => s,
+        Stage::Over => s,
+        Stage::Stopped(_) => s,
     }
 }
 
@@ -380,17 +702,21 @@ pub fn finish(
     left: &mut [u16],
     right: &mut [u16],
     colour: &mut [u8],
+    lefts: &mut [u32],
+    rights: &mut [u32],
     line: &mut [u8],
     out: &mut [u8],
     s: Session,
 ) -> Session
-    ensures { λ t. ⌜ stand t (is left) (is right) (is colour) (is line) (is out)
-        ≡ finish (stand s (was left) (was right) (was colour) (was line) (was out)) ⌝ }
+    ensures { λ t. ⌜ stand t (is left) (is right) (is colour) (is lefts) (is rights) (is line)
+        (is out) ≡ finish (stand s (was left) (was right) (was colour) (was lefts) (was rights)
+        (was line) (was out)) ⌝ }
 {
     if bare(s) {
-        return emptied(s);
+        return closed(out, emptied(s));
     }
-    block(left, right, colour, line, out, s, b"\n")
+    let t = block(left, right, colour, lefts, rights, line, out, s, b"\n");
+    closed(out, t)
 }
 
 // What a read delivered: n bytes of the input, or none, which is its end.
@@ -398,19 +724,31 @@ pub fn turn(
     left: &mut [u16],
     right: &mut [u16],
     colour: &mut [u8],
+    lefts: &mut [u32],
+    rights: &mut [u32],
     line: &mut [u8],
     out: &mut [u8],
     s: Session,
     input: &[u8],
     n: usize,
 ) -> Session
-    ensures { λ t. ⌜ stand t (is left) (is right) (is colour) (is line) (is out)
-        ≡ turn n (was input) (stand s (was left) (was right) (was colour) (was line) (was out))
-        ⌝ }
+    ensures { λ t. ⌜ stand t (is left) (is right) (is colour) (is lefts) (is rights) (is line)
+        (is out) ≡ turn n (was input) (stand s (was left) (was right) (was colour) (was lefts)
+        (was rights) (was line) (was out)) ⌝ }
 {
     if n == 0 {
-        return finish(left, right, colour, line, out, s);
+        return finish(left, right, colour, lefts, rights, line, out, s);
     }
     let end = least(n, input.len());
-    block(left, right, colour, line, out, s, &input[0..end])
+    block(
+        left,
+        right,
+        colour,
+        lefts,
+        rights,
+        line,
+        out,
+        s,
+        &input[0..end],
+    )
 }

@@ -1,9 +1,13 @@
-"""The families of schedules. Each is given a random source and counts its own."""
+"""The families of schedules. Each is given a random source and counts its own. Some
+can begin with a loaded table in place of a new one: `begin` makes the schedule."""
 
 import random
 
+from exports import (GARBAGE, LINE, NONE, defect, defects, from_run, random_edges, roomy,
+                     sound)
 from malformed import (BAD_FIRST, FIRST, GOOD, LITTLE, MALFORMED, SIZES_0, SIZES_1, long_line,
                        of_length)
+from mangled import WAYS
 from schedule import Schedule
 from sim import APPEND, SIDES
 
@@ -13,11 +17,17 @@ def of_size(rng, low, high, slots=64, budget=300000, stop=0.3):
     return Schedule(rng, m, rng.randint(1, min(slots, m - 2)), budget, stop)
 
 
-def mixed(rng, index):
+def loaded(rng, low, high, slots=64, budget=300000, stop=0.3):
+    s = of_size(rng, low, high, slots, budget, stop)
+    s.load((from_run if rng.random() < 0.15 else sound)(rng, s.m, s.r))
+    return s
+
+
+def mixed(rng, index, begin=of_size):
     """Steps of all kinds. On the smallest tables single collector steps between;
     now and then some thousand lines."""
     low, high = ((3, 12), (3, 5), (13, 300), (3, 12), (3, 5), (6, 40))[index % 6]
-    s = of_size(rng, low, high, rng.choice((1, 2, 3, 64)))
+    s = begin(rng, low, high, rng.choice((1, 2, 3, 64)))
     s.repeat(20, 4000 if index % 12 == 5 else 300, lambda: s.choose(
         s.budget > 100, s.sound, high == 5, lambda: s.collect(1), 0.01, s.look))
     return s
@@ -78,9 +88,9 @@ def deep(rng, index):
     return s
 
 
-def owed(rng, index):
+def owed(rng, index, begin=of_size):
     """A shade that stays owed over whole cycles."""
-    s = of_size(rng, 4, 24, 3)
+    s = begin(rng, 4, 24, 3)
     for _ in range(rng.randint(3, 9)):
         s.repeat(0, 4, s.take)
         s.link()
@@ -95,9 +105,9 @@ def owed(rng, index):
     return s
 
 
-def garbage(rng, index):
+def garbage(rng, index, begin=of_size):
     """Build, till the list is empty or not, cut, collect, build again."""
-    s = of_size(rng, 3, rng.choice((5, 12, 60, 200)), 4, stop=0.2)
+    s = begin(rng, 3, rng.choice((5, 12, 60, 200)), 4, stop=0.2)
     for _ in range(rng.randint(2, 6)):
         if rng.random() < 0.5:
             while s.take() and len(s.lines) < 300:
@@ -118,10 +128,10 @@ def garbage(rng, index):
     return s
 
 
-def late(rng, index):
+def late(rng, index, begin=of_size):
     """Link to a white node and a shade that comes late, at all positions. With a
     chain that falls in node numbers a cycle comes near B."""
-    s = of_size(rng, 5, rng.choice((16, 16, 16, 60)), 3)
+    s = begin(rng, 5, rng.choice((16, 16, 16, 60)), 3)
 
     def wait():
         s.collect(rng.choice((1, 2, rng.randint(1, s.m), rng.randint(1, 6 * s.m))))
@@ -144,10 +154,10 @@ def late(rng, index):
     return s
 
 
-def hazard(rng, index):
+def hazard(rng, index, begin=of_size):
     """The edge to a white node is moved to a black one, or to the other side, and
     the old edge cut, with few collector steps between."""
-    s = of_size(rng, 4, rng.choice((8, 20)), 3, stop=0.15)
+    s = begin(rng, 4, rng.choice((8, 20)), 3, stop=0.15)
     s.maybe(0.4, s.build_falling, s.slot(), rng.randint(1, max(1, s.m - s.r - 2)))
     s.repeat(2, s.m, s.take)
     s.maybe(0.7, s.cycle, 2)
@@ -175,8 +185,8 @@ def hazard(rng, index):
     return s
 
 
-def refusals(rng, index):
-    s = of_size(rng, 3, 12, rng.choice((1, 2, 3, 64)))
+def refusals(rng, index, begin=of_size):
+    s = begin(rng, 3, 12, rng.choice((1, 2, 3, 64)))
     big = [n for n in (s.r, s.r + 1, 63, 64, 65, 255, 256, 65535, 65536, 65536 + s.r - 1, 131072,
                        1000000, 9999999) if n >= s.r]
     for _ in range(rng.randint(30, 200)):
@@ -233,11 +243,93 @@ def mutated(rng, index):
     return bytes(text)
 
 
+def exported(rng, index):
+    """Steps of all kinds on a table that was loaded."""
+    family = (mixed, late, hazard, garbage, mixed, owed, refusals, garbage)[index % 8]
+    return family(rng, index, loaded)
+
+
+def whole(rng, index):
+    """A sound export with each kind of garbage in turn, and few steps or none: looks
+    at all that the slots have, a cycle, and takes till the list is empty."""
+    if index % 3 == 2:
+        x = roomy(rng)
+        x.make(rng.choice(NONE)(rng, x, LINE))
+    else:
+        m = rng.choice((3, 4, 5, rng.randint(6, 20), rng.randint(6, 20), 66))
+        r = rng.choice((1, m - 2, rng.randint(1, m - 2)))
+        x = sound(rng, m, min(r, 64), GARBAGE[index % len(GARBAGE)])
+    s = Schedule(rng, x.m, x.r)
+    s.load(x)
+    if index % 4 == 3:
+        return s
+    for place, _, _ in list(s.places().values())[:20]:
+        s.look(place)
+    s.maybe(0.5, s.repeat, 1, 4, s.take)
+    s.cycle()
+    while s.take((0, "")):
+        pass
+    return s
+
+
+def ended(rng, x):
+    """An export that is mostly refused, and steps, which are then not done."""
+    s = Schedule(rng, x.m, x.r)
+    s.repeat(0, 6, s.sound)
+    s.lines[1:1] = x.lines()
+    return s
+
+
+def broken(rng, index):
+    return ended(rng, defect(rng, index, LINE))
+
+
+def broken_twice(rng, index):
+    return ended(rng, defects(rng, index, LINE))
+
+
+def any_edges(rng, index):
+    return ended(rng, random_edges(rng, LINE))
+
+
+def mangled(rng, index):
+    m = rng.choice((3, 4, rng.randint(5, 12), rng.randint(5, 12), rng.randint(5, 60)))
+    x = sound(rng, m, rng.randint(1, min(3, m - 2)))
+    s = Schedule(rng, x.m, x.r)
+    s.load(x)
+    lines, more = WAYS[index % len(WAYS)](rng, s.lines[0], x.lines())
+    del s.lines[:]
+    if more:
+        s.repeat(0, 6, s.sound)
+    s.lines[:0] = lines
+    return s
+
+
+def large_export(rng, index):
+    """M = 4,096 every other time: sound, with one defect, or cut."""
+    m = 4096 if index % 2 == 0 else rng.choice((4095, rng.randint(300, 2000)))
+    x = sound(rng, m, rng.choice((1, 64)), None, rng.choice(((0.4, 0.3), (1, 0), (0, 0.5))))
+    s = Schedule(rng, m, x.r, 40000, 0.1)
+    s.load(x)
+    way = index // 2 % 3
+    if way == 1:
+        side, node = rng.randrange(2), rng.choice((m - 1, x.last(), rng.randrange(m)))
+        edge = rng.choice((m, 1, x.last(), rng.randrange(2, m)))
+        s.lines[1:] = (x.make([(side, node, edge)]), x.lines())[1]
+    elif way == 2:
+        s.lines.pop(rng.choice((-1, rng.randint(1, m))))
+    s.repeat(5, 20, lambda: s.choose(4, s.take, 1, lambda: s.collect(1, 6000), 4, s.sound))
+    return s
+
+
 FAMILIES = [
-    bad_lines, mixed, first, late, owed, hazard, garbage, refusals, first, mixed, first, late,
-    first, mutated, deep, mixed, bad_lines, first, owed, garbage, hazard, mixed, first, late,
-    large, first, bad_lines, hazard, first, refusals, mixed, garbage, late, first, deep, mutated,
-    hazard, first, mixed, bad_lines, owed, first, late, first, hazard, heavy, first, garbage, late,
+    bad_lines, mixed, exported, first, late, broken, owed, hazard, mangled, garbage, refusals,
+    exported, first, mixed, whole, first, late, broken, first, mutated, mangled, deep, mixed,
+    exported, bad_lines, first, any_edges, owed, garbage, broken, hazard, mixed, exported, first,
+    late, mangled, large, first, broken_twice, bad_lines, hazard, whole, first, refusals, exported,
+    mixed, garbage, broken, late, first, mangled, deep, mutated, exported, hazard, first, broken,
+    mixed, bad_lines, mangled, owed, first, large_export, late, first, exported, hazard, broken,
+    heavy, first, mangled, garbage, late, any_edges, broken_twice,
 ]
 
 

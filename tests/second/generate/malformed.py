@@ -26,6 +26,7 @@ WHOLE = (b"| |  |\t|\r|\0|=|-|0|op|shade|kind=2|# op=shade|#|\xff|\xff\xfe\xfd|o
          b"|op=shade;op=shade|'op=shade'|op=shade\\n|op=shade\x0b|op=shade\x0c"
          b"|op=shade\x1a|op=shade\x7f"
          b"|op=shade\xc2\xa0|nodes=5 slots=1|nodes=3 slots=1|nodes=4096 slots=64|nodes=0 slots=0"
+         b"|node=0 left=0 right=0|node=|node=1|node=5 left=0 right=0|node=0"
          b"|op=take 0 - L|op=collect 1|op=take slot=0 turns=- side=L toslot=0 toturns=-"
          b"|op=link slot=0 turns=- side=L slot=0 turns=-|op=take toslot=0 toturns=- side=L"
          b"|op=link slot=99 turns=- side=Q toslot=0 toturns=-|op=look slot=99 turns=?"
@@ -89,3 +90,16 @@ def of_length(rng, n):
 def long_line(rng):
     n = rng.choice((81, 81, 81, 82, 160, 255, 256, 257, 1000, 4095, 4096, 4097, 8192))
     return of_length(rng, n if rng.random() < 0.97 else 65536 + rng.randrange(3))
+
+
+def export_variants(line):
+    """What one change makes of a line of an export; not all of it is malformed."""
+    return mixed(variants(line))
+
+
+def long_export_line(rng, line):
+    """A line of the export made longer than a line may be, or just as long."""
+    front, _, back = line.partition(b" ")
+    fill = rng.choice((b" ", b"0", b"\0", b"x"))
+    n = rng.choice((79, 80, 81, 81, 82, 160, 256, 257, 4096, 70000)) - len(line)
+    return rng.choice((front + fill * n + b" " + back[1:], line + fill * n))

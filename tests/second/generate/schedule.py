@@ -11,6 +11,11 @@ class Schedule:
         self.sim = Sim(m, r)
         self.lines = [b"nodes=%d slots=%d" % (m, r)]
 
+    def load(self, export):
+        """An export, directly after the first line; the simulation goes on from it."""
+        self.lines += export.lines()
+        self.sim.load(export.e, export.last())
+
     def text(self):
         end = b"\n" if self.rng.random() < 0.8 or self.lines[-1] == b"" else b""
         return b"\n".join(self.lines) + end

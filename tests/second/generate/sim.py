@@ -18,6 +18,10 @@ class Sim:
             self.last = n
         self.steps = self.cycles = self.lastc = self.black = self.inuse = 0
 
+    def load(self, edges, last):
+        """A sound export, loaded into a new table."""
+        self.e, self.last = [side[:] for side in edges], last
+
     def bound(self):
         return self.m * self.m + 5 * self.m + self.r + 2
 

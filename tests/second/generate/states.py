@@ -1,10 +1,11 @@
-"""Lines for `model --state`, `--run` and `--fresh`. A family is given a random
+"""Lines for `model --state`, `--run`, `--fresh` and `--load`. A family is given a random
 source and a sound table with its record, may change these, and answers a step:
 kind, slot, count, word, side, toslot, tocount, toword. Some are invented, or damaged: every call
 answers, whatever it is given [Calls 1]."""
 
 import random
 
+import exports
 import families
 from schedule import Schedule
 from sim import APPEND, BLACK, COLLECT, LEFT, LINK, LOOK, RIGHT, ROOTS, SCAN, SHADE, TAKE
@@ -249,7 +250,58 @@ def fresh_lines(seed):
         yield line
 
 
-MODES = {"": families.schedule, "--state": state_lines, "--run": run_lines, "--fresh": fresh_lines}
+def lent(rng, j):
+    """What is lent to Load, as an export: sound, of any edges, with a defect or more."""
+    m = rng.choice((3, 4, 5, rng.randint(3, 24)))
+    r = rng.choice((1, m - 2, rng.randint(1, m - 2)))
+    if j % 6 == 0:
+        return exports.sound(rng, m, r, exports.GARBAGE[j // 6 % 7])
+    if j % 6 == 1:
+        return exports.random_edges(rng, exports.LIST)
+    if j % 6 == 2:
+        return exports.defects(rng, j // 6, exports.LIST)
+    if j % 18 == 3:
+        x = exports.roomy(rng)
+        x.make(rng.choice(exports.NONE)(rng, x, exports.LIST))
+        return x
+    if j % 18 == 4:
+        return exports.from_run(rng, m, r)
+    return exports.defect(rng, rng.randrange(3000), exports.LIST)
+
+
+def sized(rng, line, arrays):
+    """One length that is not M, or sizes that are out of range or do not belong to
+    these lengths."""
+    m, r = line
+    n, which = rng.choice((0, 1, m - 1, m + 1, 2 * m, 2 * m)), rng.randrange(10)
+    if which == 5:
+        line[0] = rng.choice((0, 1, 2, m - 1, m + 1, 4096, 4097, 65535))
+    elif which == 6:
+        line[1] = rng.choice((0, m - 1, m, m + 1, 64, 65, 255, 65535))
+    elif which == 9:
+        line[0] = n
+    others = {7: (0, 1), 8: (2, 3, 4), 9: range(5)}.get(which, [which] if which < 5 else [])
+    for array in others:
+        arrays[array] = (arrays[array] * 2)[:n]
+
+
+def load_lines(seed):
+    rng = random.Random(seed)
+    for j in range(150 + (seed % 4 == 0)):
+        if j < 150:
+            x = lent(rng, j)
+        else:
+            x = exports.sound(rng, 4096 + (seed % 12 == 4), rng.choice((1, 63, 64, 65)))
+        top = rng.choice((65536, x.m, 2)), rng.choice((256, 3))
+        arrays = [*x.e, *(rng.choices(range(top[which > 1]), k=x.m) for which in range(3))]
+        line = [x.m, x.r]
+        if j % 12 in (5, 6):
+            sized(rng, line, arrays)
+        yield line + [number for array in arrays for number in (len(array), *array)]
+
+
+MODES = {"": families.schedule, "--state": state_lines, "--run": run_lines, "--fresh": fresh_lines,
+         "--load": load_lines}
 
 
 def text_of(mode, seed):

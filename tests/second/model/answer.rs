@@ -11,6 +11,10 @@ pub const DAMAGED: usize = 7;
 pub const ABSENT: usize = 8;
 pub const EMPTY: usize = 9;
 pub const UNREADABLE: usize = 10;
+/// of Load alone: an edge, the free chain, a free node that a slot reaches
+pub const BAD_EXPORT: usize = 11;
+pub const BAD_CHAIN: usize = 12;
+pub const FREE_REACHED: usize = 13;
 
 /// [Answers 3]
 pub struct Refusal {
@@ -19,13 +23,16 @@ pub struct Refusal {
 }
 
 pub fn refuse<T>(code: usize) -> Result<T, Refusal> {
-    Err(Refusal { code, node: 0 })
+    refuse_at(code, 0)
+}
+
+pub fn refuse_at<T>(code: usize, node: usize) -> Result<T, Refusal> {
+    Err(Refusal { code, node })
 }
 
 /// [Codes 7] with the node that has the bad value
 pub fn damaged<T>(node: usize) -> Result<T, Refusal> {
-    let code = DAMAGED;
-    Err(Refusal { code, node })
+    refuse_at(DAMAGED, node)
 }
 
 /// [Answers 1] what a collector step did; the values are the `did` column of

@@ -1,5 +1,6 @@
 //! A second program, written from the studio's document 01 alone, without a look
-//! at the first. The comments cite the rules of docs/RULES.md that it follows.
+//! at the first, and Load from the studio's request for it in the same way. The
+//! comments cite the rules of docs/RULES.md that it follows.
 //!
 //!     rustc -O main.rs -o model
 //!
@@ -28,10 +29,28 @@
 //!
 //! `model --fresh` reads: M R len left.. len right.. len colour.. and answers:
 //! code M R .. colour..
+//!
+//! `model --load` reads M and R, the two lists of edges that are lent, and the
+//! three slices as they are before; each of the five has its own length, which
+//! need not be M (shown here in pieces):
+//!
+//!     M R
+//!     len lent-left[0] .. len lent-right[0] ..
+//!     len left[0] .. len right[0] .. len colour[0] ..
+//!
+//! The edges that are lent have 32 bits, those in the slices 16, colours 8, M
+//! and R and the lengths 64. The answer is one line:
+//!
+//!     code node, then M R .. colour.. as they are afterwards
+//!
+//! node is last where code is 0, the node refused where code is 11, 12 or 13,
+//! and 0 where it is 1. The record printed (M to in-use) is all 0 where code
+//! is not 0, and the slices are then as they were.
 
 mod answer;
 mod collector;
 mod editor;
+mod load;
 mod record;
 mod schedule;
 mod states;
@@ -51,8 +70,9 @@ fn main() {
         ["--state"] => states::program(&mut input, &mut output, states::state_line),
         ["--run"] => states::program(&mut input, &mut output, states::run_line),
         ["--fresh"] => states::program(&mut input, &mut output, states::fresh_line),
+        ["--load"] => states::program(&mut input, &mut output, states::load_line),
         _ => {
-            eprintln!("usage: model [--state | --run | --fresh]");
+            eprintln!("usage: model [--state | --run | --fresh | --load]");
             std::process::exit(2);
         }
     };

@@ -44,7 +44,7 @@ pub struct Record {
 pub const LARGEST_CYCLES: usize = 4_294_967_295;
 
 /// [Fresh 5] the record of a new table
-fn begin(m: usize, r: usize, last: usize) -> Record {
+pub fn begin(m: usize, r: usize, last: usize) -> Record {
     Record {
         m,
         r,
@@ -59,11 +59,15 @@ fn begin(m: usize, r: usize, last: usize) -> Record {
     }
 }
 
+/// [Fresh 7] [Fresh 8] the record of one that was refused
+pub fn refused() -> Record {
+    begin(0, 0, 0)
+}
+
 /// [Fresh 1] makes a new table of m nodes and r slots
 pub fn fresh(table: &mut Table, m: usize, r: usize) -> (usize, Record) {
     if !size_is_good(table, m, r) {
-        // [Fresh 7] [Fresh 8]
-        return (SIZE, begin(0, 0, 0));
+        return (SIZE, refused());
     }
     for node in 0..m {
         // [Fresh 2] all white, [Fresh 4] edges 0 but for the free list's
@@ -81,7 +85,7 @@ pub fn fresh(table: &mut Table, m: usize, r: usize) -> (usize, Record) {
 }
 
 /// [Table 1] the sizes' range, and [Codes 1] the lengths of the arrays
-fn size_is_good(table: &Table, m: usize, r: usize) -> bool {
+pub fn size_is_good(table: &Table, m: usize, r: usize) -> bool {
     let in_range = m >= 3 && m <= 4096 && r >= 1 && r <= 64 && r + 2 <= m;
     let [left, right] = &table.edges;
     in_range && left.len() == m && right.len() == m && table.colours.len() == m

@@ -3,10 +3,11 @@
 use std::io::{self, BufRead, Read, Write};
 
 use crate::answer::{DONE, UNREADABLE};
+use crate::load::{load, Export};
 use crate::record::{fresh, Record};
 use crate::step::{do_step, Step, COLLECT};
-use crate::table::Table;
-use crate::text::{first_line, later_line, Line, Lines};
+use crate::table::{Table, LEFT, RIGHT};
+use crate::text::{begins_export, export_line, first_line, later_line, Line, Lines};
 
 /// [Program 7] so many steps, or until one is refused; [Program 14] the node
 fn collect_many(table: &mut Table, record: &mut Record, count: usize) -> (usize, usize) {
@@ -35,6 +36,39 @@ fn do_line(table: &mut Table, record: &mut Record, line: &[u8]) -> (usize, usize
     }
 }
 
+/// The export of m lines, the first of which is held already; None if a line of
+/// it is not of the form, out of turn, or missing.
+fn read_export<I>(lines: &mut Lines<I>, held: &mut Option<Vec<u8>>, m: usize) -> Option<Export>
+where
+    I: Iterator<Item = io::Result<u8>>,
+{
+    let mut export = [Vec::new(), Vec::new()];
+    for due in 0..m {
+        let line = held.take().or_else(|| lines.next_line())?;
+        let (node, left, right) = export_line(&line)?;
+        if node != due {
+            return None;
+        }
+        // At most 7 digits: nothing is cut.
+        export[LEFT].push(left as u32);
+        export[RIGHT].push(right as u32);
+    }
+    Some(export)
+}
+
+/// The answer of Load, or that of an export which cannot be read.
+fn do_load(table: &mut Table, record: &mut Record, export: Option<Export>) -> (usize, usize) {
+    let Some(export) = export else {
+        return (UNREADABLE, 0);
+    };
+    let (reply, loaded) = load(table, &export, record.m, record.r);
+    *record = loaded;
+    match reply {
+        Ok(last) => (DONE, last),
+        Err(refusal) => (refusal.code, refusal.node),
+    }
+}
+
 fn print(output: &mut dyn Write, code: usize, node: usize) -> io::Result<()> {
     writeln!(output, "code={} node={}", code, node)
 }
@@ -60,7 +94,17 @@ pub fn program(input: &mut dyn BufRead, output: &mut dyn Write) -> io::Result<()
         return Ok(());
     }
 
-    while let Some(line) = lines.next_line() {
+    let mut held = lines.next_line();
+    if begins_export(held.as_deref().unwrap_or_default()) {
+        let export = read_export(&mut lines, &mut held, m);
+        let (code, node) = do_load(&mut table, &mut record, export);
+        print(output, code, node)?;
+        if code != DONE {
+            return Ok(());
+        }
+    }
+
+    while let Some(line) = held.take().or_else(|| lines.next_line()) {
         let (code, node) = do_line(&mut table, &mut record, &line);
         print(output, code, node)?;
     }

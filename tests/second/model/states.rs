@@ -1,10 +1,11 @@
-//! The modes --state, --run and --fresh.
+//! The modes --state, --run, --fresh and --load.
 
 use std::convert::TryFrom;
 use std::io::{self, BufRead, Write};
 
 use crate::answer::DONE;
 use crate::editor::Place;
+use crate::load::load;
 use crate::record::{fresh, Phase, Record, LARGEST_CYCLES};
 use crate::step::{do_run, do_step, Step};
 use crate::table::Table;
@@ -135,6 +136,19 @@ pub fn fresh_line(numbers: &mut Numbers) -> Option<String> {
     numbers.end()?;
     let (code, record) = fresh(&mut table, m, r);
     Some(format!("{} {}", code, show(&record, &table)))
+}
+
+pub fn load_line(numbers: &mut Numbers) -> Option<String> {
+    let (m, r) = (numbers.take()?, numbers.take()?);
+    let export = [numbers.array()?, numbers.array()?];
+    let mut table = numbers.table()?;
+    numbers.end()?;
+    let (reply, record) = load(&mut table, &export, m, r);
+    let (code, node) = match reply {
+        Ok(last) => (DONE, last),
+        Err(refusal) => (refusal.code, refusal.node),
+    };
+    Some(format!("{} {} {}", code, node, show(&record, &table)))
 }
 
 pub fn program(

@@ -110,6 +110,23 @@ pub fn first_line(line: &[u8]) -> Option<(usize, usize)> {
     }
 }
 
+/// Directly after the first line, what begins so begins an export, of the form
+/// or not.
+pub fn begins_export(line: &[u8]) -> bool {
+    line.starts_with(b"node=")
+}
+
+/// A line of an export: its node, its left and its right edge.
+pub fn export_line(line: &[u8]) -> Option<(usize, usize, usize)> {
+    match pieces(line)?[..] {
+        [node, left, right] => {
+            let node = number(node, "node")?;
+            Some((node, number(left, "left")?, number(right, "right")?))
+        }
+        _ => None,
+    }
+}
+
 /// One later line: a step, or `op=collect` with its count.
 pub enum Line {
     One(Step),

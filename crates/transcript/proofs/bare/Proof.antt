@@ -1,4 +1,4 @@
--- `bare` meets its contract: the same three cases.
+-- `bare` meets its contract: the same six cases.
 use borrow.Author.Needs.{needs}
 use Rattle.transcript.proofs.bare.Statement.{statement}
 use Rattle.transcript.proofs.bare.Tie as tie
@@ -12,6 +12,15 @@ enum-told-2 c = search needs
 enum-told-3 : tie.Need-enum-told-3
 enum-told-3 c = search needs
 
+enum-told-4 : tie.Need-enum-told-4
+enum-told-4 c = search needs
+
+enum-told-5 : tie.Need-enum-told-5
+enum-told-5 c = search needs
+
+enum-told-6 : tie.Need-enum-told-6
+enum-told-6 c = search needs
+
 returns : tie.Need-returns
 returns c = search needs
 
@@ -19,7 +28,30 @@ returns-2 : tie.Need-returns-2
 returns-2 c = rw (c .before .enum-told2 .given .1)
 
 returns-3 : tie.Need-returns-3
-returns-3 c = search needs
+returns-3 c = rw (c .before .enum-told3 .given .1)
+
+returns-4 : tie.Need-returns-4
+returns-4 c = rw (c .before .enum-told4 .given .1)
+
+returns-5 : tie.Need-returns-5
+returns-5 c = search needs
+
+returns-6 : tie.Need-returns-6
+returns-6 c = search needs
 
 pub bare-spec : {M : Type 1} → statement M
-bare-spec = tie.close (tie.spec enum-told enum-told-2 enum-told-3 returns returns-2 returns-3)
+bare-spec =
+    tie.close
+    (tie.spec
+    enum-told
+    enum-told-2
+    enum-told-3
+    enum-told-4
+    enum-told-5
+    enum-told-6
+    returns
+    returns-2
+    returns-3
+    returns-4
+    returns-5
+    returns-6)

@@ -1,7 +1,7 @@
 -- `begin` meets its contract: the answer's code decides the stage, in `begun` as in the code.
 use native.Mathlib.Nat.{sub-zero}
 use Rattle.transcript.proofs.Parts.{front}
-use Rattle.transcript.proofs.Stands.{begun-over, begun-serving}
+use Rattle.transcript.proofs.Stands.{begun-over, begun-second}
 use borrow.Author.Needs.{needs}
 use Rattle.transcript.proofs.begin.Statement.{statement}
 use Rattle.transcript.proofs.begin.Tie as tie
@@ -41,9 +41,9 @@ returns c =
     let at-first = c .before .before .before .before .before .before .before .before .before .before
     .before .before .before in
     let at-least = at-first .before .before .before .before .before in
-    begun-over _ _ _ _ _ _ _ _ _ _ _ _ _ _ _ _
+    λ ls rs. begun-over _ _ _ _ _ _ _ _ _ _ _ _ _ _ _ _
     (rw (sub-zero, at-least .least .ensures, front) at (at-first .first .ensures))
-    (c .before .before .before .before .before .say .ensures) (c .if1 .taken)
+    (c .before .before .before .before .before .say .ensures) ls rs (c .if1 .taken)
 
 cast-t14 : tie.Need-cast-t14
 cast-t14 c = search needs
@@ -66,9 +66,9 @@ returns-2 c =
     let at-first = c .before .before .before .before .before .before .before .before .before .before
     .before .before .before .before in
     let at-least = at-first .before .before .before .before .before in
-    begun-serving _ _ _ _ _ _ _ _ _ _ _ _ _ _ _ _
+    λ ls rs. begun-second _ _ _ _ _ _ _ _ _ _ _ _ _ _ _ _
     (rw (sub-zero, at-least .least .ensures, front) at (at-first .first .ensures))
-    (at-say .say .ensures) (c .before .if1 .left)
+    (at-say .say .ensures) ls rs (c .before .if1 .left)
 
 pub begin-spec : {M : Type 1} → statement M
 begin-spec =

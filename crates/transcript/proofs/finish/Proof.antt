@@ -1,8 +1,7 @@
--- `finish` meets its contract: a line at hand is ended by a newline, and where there is none
--- nothing is printed.
+-- `finish` meets its contract: a line at hand is ended by a newline, and an export that is not
+-- complete ends the run.
 use mathlib.Core.Path.{sym, _∙_}
-use Rattle.base.proofs.Tests.{pick-yes, pick-no}
-use Rattle.transcript.specs.Feeding.{finish}
+use Rattle.transcript.proofs.Stands.{finish-bare, finish-line}
 use borrow.Author.Needs.{needs}
 use Rattle.transcript.proofs.finish.Statement.{statement}
 use Rattle.transcript.proofs.finish.Tie as tie
@@ -13,11 +12,19 @@ bare-requires c κs = search needs
 emptied-requires : tie.Need-emptied-requires
 emptied-requires c κs = search needs
 
+closed-requires : tie.Need-closed-requires
+closed-requires c κs = search needs
+
+same-length : tie.Need-same-length
+same-length c = search needs
+
 returns : tie.Need-returns
-unfolding finish
 returns c =
-    pick-yes _ _ _ _ (sym (c .before .if1 .taken) ∙ c .before .before .bare .ensures)
-    (c .emptied .ensures _ _ _ _ _)
+    let at-closed = c .before .before in
+    let at-test = at-closed .before .before .before in
+    finish-bare _ _ _ (at-closed .closed .ensures _ _ _ _ _ _)
+    (sym (at-test .if1 .taken) ∙ at-test .before .bare .ensures)
+    (at-closed .before .emptied .ensures _ _ _ _ _ _ _)
 
 slice-aggregate-block : tie.Need-slice-aggregate-block
 slice-aggregate-block c = search needs
@@ -25,8 +32,8 @@ slice-aggregate-block c = search needs
 block-requires : tie.Need-block-requires
 block-requires c κs = search needs
 
-same-length : tie.Need-same-length
-same-length c = search needs
+closed-requires-2 : tie.Need-closed-requires-2
+closed-requires-2 c κs = search needs
 
 same-length-2 : tie.Need-same-length-2
 same-length-2 c = search needs
@@ -40,13 +47,24 @@ same-length-4 c = search needs
 same-length-5 : tie.Need-same-length-5
 same-length-5 c = search needs
 
+same-length-6 : tie.Need-same-length-6
+same-length-6 c = search needs
+
+same-length-7 : tie.Need-same-length-7
+same-length-7 c = search needs
+
+same-length-8 : tie.Need-same-length-8
+same-length-8 c = search needs
+
 returns-2 : tie.Need-returns-2
-unfolding finish
 returns-2 c =
-    let at-block = c .before .before .before .before .before .before .before .before .before .before
-    in let at-test = at-block .before .before .before .before .before .before .before in
-    pick-no _ _ _ _ (sym (at-test .if1 .left) ∙ at-test .before .bare .ensures)
-    (at-block .block .ensures)
+    let at-closed = c .before .before in
+    let at-block = at-closed .before .before .before .before .before .before .before .before .before
+    .before .before .before .before .before .before .before in
+    let at-test = at-block .before .before .before .before .before .before .before .before .before
+    in
+    finish-line _ _ _ (at-closed .closed2 .ensures _ _ _ _ _ _)
+    (sym (at-test .if1 .left) ∙ at-test .before .bare .ensures) (at-block .block .ensures)
 
 pub finish-spec : {M : Type 1} → statement M
 finish-spec =
@@ -54,12 +72,17 @@ finish-spec =
     (tie.spec
     bare-requires
     emptied-requires
+    closed-requires
+    same-length
     returns
     slice-aggregate-block
     block-requires
-    same-length
+    closed-requires-2
     same-length-2
     same-length-3
     same-length-4
     same-length-5
+    same-length-6
+    same-length-7
+    same-length-8
     returns-2)

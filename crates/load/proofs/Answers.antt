@@ -1,0 +1,107 @@
+-- Laws for Load's answers: what each makes, and which is given.
+use Prim.Native.Nat.{ℕ, _≤_, _<_}
+use mathlib.Core.Path.{_≡_, refl, sym, ap, _∙_}
+use mathlib.Core.Logic.{_≢_}
+use mathlib.Core.Bool.{true, false}
+use mathlib.Core.List.{List, [], _∷_}
+use native.Mathlib.Omega.{arith}
+use lib.ListN.{length}
+use Rattle.base.proofs.Tests.{pick-yes, pick-no, eq-yes, eq-no, lt-yes, lt-no, each, facts}
+use Rattle.rules.specs.Table.{Outcome, table, state, edgeOf}
+use Rattle.rules.specs.Check.{sizeOk}
+use Rattle.rules.specs.Records.{freshRecord}
+use Rattle.rules.specs.Fresh.{tabulate, allWhite}
+use Rattle.rules.specs.Steps.{codeOf, nodeOf}
+use Rattle.rules.specs.Meet.{meet, anyEdge}
+use Rattle.rules.specs.Load.{loadSizeOf, loadSizeOk, badGiven, firstBad, chained, firstShared}
+use Rattle.rules.specs.Load.{judgeFree, judge, loadBy, load}
+use Rattle.rules.specs.declared.Record.{Record}
+use Rattle.rules.specs.declared.Answer.{Answer}
+use Rattle.rules.specs.declared.Answer.the-variants.{Refused}
+use Rattle.reach.proofs.Lowests.{Passes, lowest-passes}
+use Rattle.reach.proofs.Given.{sizes, bad-no, all-good}
+use Rattle.load.specs.GoodEdges.{Below, loadGood}
+
+-- no table
+pub load-refused : (m r : ℕ) (given edges : List (List ℕ)) (colours : List ℕ) (a b : Answer)
+    (x : Record) → a ≡ b → codeOf a ≢ 0 → x ≡ freshRecord 0 0 0
+    → record { answer = a; state = table edges colours x } ≡ loadBy m r given edges colours b
+unfolding loadBy
+load-refused m r given edges colours a b x q h e = rw (← q, e) (pick-no _ _ _ _ (eq-no _ _ h) refl)
+
+-- a table
+pub load-done : (m r : ℕ) (l g left right colour left′ right′ colour′ : List ℕ) (a b : Answer)
+    (n : ℕ) (x : Record) → a ≡ b → codeOf a ≡ 0 → left′ ≡ l
+    → right′ ≡ g → length colour ≡ m → colour′ ≡ tabulate allWhite (length colour) → n ≡ nodeOf a
+    → x ≡ freshRecord m r n
+    → record { answer = a; state = state left′ right′ colour′ x }
+    ≡ loadBy m r (l ∷ g ∷ []) (left ∷ right ∷ []) colour b
+unfolding loadBy
+load-done m r l g left right colour left′ right′ colour′ a b n x q h p k w e u v =
+    rw (← q, p, k, e, w, v, u) (pick-yes _ _ _ _ (eq-yes _ _ h) refl)
+
+-- 13, or the chain's end
+module _ (m r : ℕ) (es : List (List ℕ)) (free num : List ℕ) (a : Answer) (n : ℕ) (h : codeOf a ≡ 0)
+    (q : num ≡ meet m r es .num) (e : n ≡ firstShared m free num) where
+  pub judge-shared : n < m → Refused 13 n ≡ judgeFree m r es (chained free a)
+  unfolding judgeFree
+  judge-shared l =
+      rw (← q, ← e) (pick-yes _ _ _ _ (eq-yes _ _ h) (pick-yes _ _ _ _ (lt-yes _ _ l) refl))
+
+  pub judge-whole : m ≤ n → a ≡ judgeFree m r es (chained free a)
+  unfolding judgeFree
+  judge-whole l =
+      rw (← q, ← e) (pick-yes _ _ _ _ (eq-yes _ _ h) (pick-no _ _ _ _ (lt-no _ _ l) refl))
+
+-- 1, 11, or what is judged where edges are good
+module _ (m r : ℕ) (given edges : List (List ℕ)) (colours : List ℕ) (o : Outcome) where
+  pub load-size : false ≡ loadSizeOk m r given edges colours → o
+      ≡ loadBy m r given edges colours (Refused 1 0) → o ≡ load m r given edges colours
+  unfolding load
+  load-size z e = e ∙ ap (loadBy m r given edges colours) (pick-no _ _ _ _ z refl)
+
+  pub load-bad : (n : ℕ) → true ≡ loadSizeOk m r given edges colours → n ≡ firstBad m given → n < m
+      → o ≡ loadBy m r given edges colours (Refused 11 n)
+      → o ≡ load m r given edges colours
+  unfolding load judge
+  load-bad n z q l e =
+      e ∙ ap (loadBy m r given edges colours)
+      (pick-yes _ _ _ _ z (rw (← q) (pick-yes _ _ _ _ (lt-yes _ _ l) refl)))
+
+  pub load-whole : (n : ℕ) → true ≡ loadSizeOk m r given edges colours → n ≡ firstBad m given
+      → m ≤ n → o ≡ loadGood m r given edges colours
+      → o ≡ load m r given edges colours
+  unfolding load judge
+  load-whole n z q l e =
+      e ∙ ap (loadBy m r given edges colours)
+      (pick-yes _ _ _ _ z (rw (← q) (pick-no _ _ _ _ (lt-no _ _ l) refl)))
+
+-- what passed sizes tell
+pub record Lengths (m r lefts rights left right colour : ℕ) : Type 0 where
+  pub low : 3 ≤ m
+  pub high : m ≤ 4096
+  pub few : r ≤ 64
+  pub given : (lefts ≡ m) × (rights ≡ m)
+  pub lent : (left ≡ m) × (right ≡ m) × (colour ≡ m)
+
+pub lengths : (m r lefts rights left right colour : ℕ) → true
+    ≡ loadSizeOf m r (lefts ∷ rights ∷ []) (left ∷ right ∷ []) colour
+    → Lengths m r lefts rights left right colour
+unfolding loadSizeOf sizeOk
+lengths m r lefts rights left right colour h =
+    let e = each _ h in
+    let k = each _ (sym (e .0)) in
+    omega facts
+
+-- and that no node is bad
+pub good-given : (m r : ℕ) (l g edges : List ℕ) (colours n : ℕ) → true
+    ≡ loadSizeOf m r (length l ∷ length g ∷ []) edges colours
+    → n ≡ firstBad m (l ∷ g ∷ []) → m ≤ n → Below m l × Below m g
+unfolding firstBad edgeOf
+good-given m r l g edges colours n z q h =
+    let w : Passes (λ n. anyEdge (badGiven m n) (l ∷ g ∷ []) n) 0 m (firstBad m (l ∷ g ∷ [])) =
+    lowest-passes _ m in
+    let k =
+    all-good (sizes m r (l ∷ g ∷ []) edges colours (sym z))
+    (λ i b. bad-no (l ∷ g ∷ []) i (w .below i (omega arith) (omega arith))) in
+    (λ i. k .good 0 i .0, λ i. k .good 1 i .0)

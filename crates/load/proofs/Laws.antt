@@ -1,0 +1,75 @@
+-- Laws for Load's loops: one turn of the walk along the free chain, and a list copied from the
+-- front.
+use Prim.Native.Nat.{ℕ, suc, _+_, _-_, _≤_, _<_}
+use mathlib.Core.Path.{_≡_, sym, ap, _∙_}
+use mathlib.Core.Bool.{Bool, true, false, _||_}
+use mathlib.Core.List.{List, [], _∷_}
+use native.Mathlib.Numerals.{add-one}
+use native.Mathlib.Omega.{arith}
+use lib.ListN.{length, getD, set, take, length-take}
+use lib.Seq.{take-suc, take-suc-set, take-length}
+use lib.Dec.{ltb, eqb}
+use Rattle.base.specs.Choice.{pick}
+use Rattle.rules.specs.Table.{edgeOf}
+use Rattle.rules.specs.Load.{chained, chain}
+use Rattle.rules.specs.declared.Answer.the-variants.{Started, Refused}
+
+module _ (r : ℕ) (l g : List ℕ) (m k : ℕ) (free : List ℕ) (n : ℕ) where
+  pub chain-turn : k < m → chain r (l ∷ g ∷ []) (m - k) free n ≡
+      pick (eqb (getD g n 0) 0)
+      (pick (eqb (getD l n 0) 0) (chained free (Started n))
+      (pick (ltb (getD l n 0) (r + 2)) (chained free (Refused 12 n))
+      (pick (eqb (getD free (getD l n 0) 0) 0)
+      (chain r (l ∷ g ∷ []) (m - (k + 1)) (set free (getD l n 0) 1) (getD l n 0))
+      (chained free (Refused 12 n)))))
+      (chained free (Refused 12 n))
+  unfolding chain edgeOf
+  chain-turn h =
+      let q : m - k ≡ suc (m - (k + 1)) = omega arith in
+      rw q
+
+  pub chain-out : m ≤ k → chained free (Refused 12 n) ≡ chain r (l ∷ g ∷ []) (m - k) free n
+  unfolding chain
+  chain-out h =
+      let q : m - k ≡ 0 = omega arith in
+      rw q
+
+  pub chain-start : chain r (l ∷ g ∷ []) m free n ≡ chain r (l ∷ g ∷ []) (m - 0) free n
+  chain-start =
+      let q : m - 0 ≡ m = omega arith in
+      rw q
+
+-- the last of some tests
+pub or-last : (z b : Bool) → z ≡ b → z ≡ (b || false)
+or-last z true h = h
+or-last z false h = h
+
+-- the first n elements of a list stand in another
+module _ (given : List ℕ) where
+  pub copied-more : (edges : List ℕ) (n v : ℕ) → n < length given → n < length edges → take n edges
+      ≡ take n given → v ≡ getD given n 0
+      → take (n + 1) (set edges n v) ≡ take (n + 1) given
+  copied-more edges n v h k e q =
+      rw (add-one, take-suc-set edges n v k, e, q) (sym (take-suc given n 0 h))
+
+  pub copied-front : (edges : List ℕ) (n : ℕ) → length given ≤ n → n ≤ length given → take n edges
+      ≡ take n given → take (length given) edges ≡ given
+  copied-front edges n h k e =
+      let q : n ≡ length given = omega arith in
+      (rw q at e) ∙ take-length given
+
+  pub copied-all : (edges : List ℕ) (n : ℕ) → length edges ≡ length given → length given ≤ n
+      → n ≤ length given → take n edges ≡ take n given → edges ≡ given
+  copied-all edges n l h k e =
+      sym (take-length edges) ∙ ap (λ (j : ℕ). take j edges) l ∙ copied-front edges n h k e
+
+  -- as it is lent
+  pub copied-part : (edges : List ℕ) (m : ℕ) → length given ≡ m → take (length given) edges ≡ given
+      → take (m - 0) edges ≡ given
+  copied-part edges m l e =
+      let q : m - 0 ≡ length given = omega arith in
+      rw q e
+
+  pub copied-room : (edges : List ℕ) → take (length given) edges ≡ given
+      → length given ≤ length edges
+  copied-room edges e = omega (arith, length-take (length given) edges, ap length e)

@@ -1,0 +1,156 @@
+-- `chain` meets its contract: the walk from n on is the walk from FREE on. Edges are below m, so it
+-- stays in the table.
+use mathlib.Core.Path.{_≡_, sym, _∙_}
+use mathlib.Core.List.{[], _∷_}
+use Prim.Native.Nat.{_-_, _<_}
+use native.Mathlib.Omega.{arith}
+use Rattle.base.proofs.Tests.{tests}
+use borrow.Author.Needs.{needs}
+use Rattle.rules.specs.Load.{chain}
+use Rattle.load.proofs.Laws.{chain-turn, chain-out, chain-start}
+use Rattle.load.proofs.chain.Statement.{statement}
+use Rattle.load.proofs.chain.Tie as tie
+
+abbrev Inv-loop : tie.InvT-loop
+Inv-loop left right free₀ m r n₀ k₀ free n k = (n < m) ×
+    (chain r (left ∷ right ∷ []) m free₀ 1 ≡ chain r (left ∷ right ∷ []) (m - k) free n)
+
+abbrev μ-loop : tie.MeasureT-loop
+μ-loop left right free₀ m r n₀ k₀ free n k = m - k
+
+loop-holds : tie.Need-loop-holds Inv-loop μ-loop
+loop-holds c = (omega arith, chain-start _ _ _ _ 0 _ _)
+
+cast-at : tie.Need-cast-at Inv-loop μ-loop
+cast-at c = omega arith
+
+mul-if1 : tie.Need-mul-if1 Inv-loop μ-loop
+mul-if1 c = omega arith
+
+shared-slice-read-if1 : tie.Need-shared-slice-read-if1 Inv-loop μ-loop
+shared-slice-read-if1 c = omega arith
+
+refused-requires : tie.Need-refused-requires Inv-loop μ-loop
+refused-requires c κs = search needs
+
+returns : tie.Need-returns Inv-loop μ-loop
+returns c =
+    let at-test = c .before .before .before in
+    rw (
+      c .refused .ensures,
+      at-test .before .loop .inv .1,
+      chain-turn _ _ _ _ _ _ _ (at-test .loop-test .taken),
+    )
+    (search (tests, needs) depth 12)
+
+mul-next : tie.Need-mul-next Inv-loop μ-loop
+mul-next c = omega arith
+
+shared-slice-read-next : tie.Need-shared-slice-read-next Inv-loop μ-loop
+shared-slice-read-next c = omega arith
+
+returns-2 : tie.Need-returns-2 Inv-loop μ-loop
+returns-2 c =
+    let at-loop = c .before .before .before .before .before in
+    rw (
+      at-loop .loop .inv .1,
+      chain-turn _ _ _ _ _ _ _
+          (c .before .before .before .before .loop-test .taken),
+    ) (search (tests, needs) depth 12)
+
+add-if3 : tie.Need-add-if3 Inv-loop μ-loop
+add-if3 c = omega arith
+
+refused-requires-2 : tie.Need-refused-requires-2 Inv-loop μ-loop
+refused-requires-2 c κs = search needs
+
+returns-3 : tie.Need-returns-3 Inv-loop μ-loop
+returns-3 c =
+    let at-test = c .before .before .before .before .before .before in
+    rw (
+      c .refused2 .ensures,
+      at-test .before .loop .inv .1,
+      chain-turn _ _ _ _ _ _ _ (at-test .loop-test .taken),
+    )
+    (search (tests, needs) depth 12)
+
+cast-to : tie.Need-cast-to Inv-loop μ-loop
+cast-to c =
+    let at-loop = c .before .before .before .before .before .before in
+    omega (arith, at-loop .before .before .before .pre .1 .1 .1 .1 .1 (at-loop .loop .n))
+
+element-copy-out-if4 : tie.Need-element-copy-out-if4 Inv-loop μ-loop
+element-copy-out-if4 c =
+    let at-loop = c .before .before .before .before .before .before in
+    omega (arith, at-loop .before .before .before .pre .1 .1 .1 .1 .1 (at-loop .loop .n))
+
+refused-requires-3 : tie.Need-refused-requires-3 Inv-loop μ-loop
+refused-requires-3 c κs = search needs
+
+returns-4 : tie.Need-returns-4 Inv-loop μ-loop
+returns-4 c =
+    let at-test = c .before .before .before .before .before .before .before .before in
+    rw (
+      c .refused3 .ensures,
+      at-test .before .loop .inv .1,
+      chain-turn _ _ _ _ _ _ _ (at-test .loop-test .taken),
+    )
+    (search (tests, needs) depth 12)
+
+element-write-free : tie.Need-element-write-free Inv-loop μ-loop
+element-write-free c =
+    let at-loop = c .before .before .before .before .before .before .before .before in
+    omega (arith, at-loop .before .before .before .pre .1 .1 .1 .1 .1 (at-loop .loop .n))
+
+add-k : tie.Need-add-k Inv-loop μ-loop
+add-k c = omega arith
+
+loop-less : tie.Need-loop-less Inv-loop μ-loop
+loop-less c = omega arith
+
+loop-again : tie.Need-loop-again Inv-loop μ-loop
+loop-again c =
+    let at-loop-test = c .before .before .before .before .before .before .before in
+    let at-loop = c .before .before .before .before .before .before .before .before in (
+      omega (arith, at-loop .before .before .before .pre .1 .1 .1 .1 .1 (at-loop .loop .n)),
+      at-loop .loop .inv .1
+          ∙ sym (rw (chain-turn _ _ _ _ _ _ _ (at-loop-test .loop-test .taken))
+          (search (tests, needs) depth 12)),
+    )
+
+refused-requires-4 : tie.Need-refused-requires-4 Inv-loop μ-loop
+refused-requires-4 c κs = search needs
+
+returns-5 : tie.Need-returns-5 Inv-loop μ-loop
+returns-5 c =
+    rw (c .refused4 .ensures)
+    (chain-out _ _ _ _ _ _ _ (omega arith) ∙ sym (c .before .before .loop .inv .1))
+
+pub chain-spec : {M : Type 1} → statement M
+chain-spec =
+    tie.close
+    (tie.spec
+    Inv-loop
+    μ-loop
+    loop-holds
+    cast-at
+    mul-if1
+    shared-slice-read-if1
+    refused-requires
+    returns
+    mul-next
+    shared-slice-read-next
+    returns-2
+    add-if3
+    refused-requires-2
+    returns-3
+    cast-to
+    element-copy-out-if4
+    refused-requires-3
+    returns-4
+    element-write-free
+    add-k
+    loop-less
+    loop-again
+    refused-requires-4
+    returns-5)

@@ -1,0 +1,24 @@
+-- `refused` meets its contract: its code is not 0, so that no table is made.
+use mathlib.Core.Path.{refl}
+use native.Mathlib.Omega.{arith}
+use Rattle.rules.specs.Table.{refused}
+use Rattle.load.proofs.Answers.{load-refused}
+use borrow.Author.Needs.{needs}
+use Rattle.load.proofs.refused.Statement.{statement}
+use Rattle.load.proofs.refused.Tie as tie
+
+fresh-requires : tie.Need-fresh-requires
+fresh-requires c κs = search needs
+
+refusal-requires : tie.Need-refusal-requires
+refusal-requires c κs = search needs
+
+returns : tie.Need-returns
+returns c m r given edges colours =
+    rw (c .refusal .ensures)
+    (load-refused m r given edges colours
+    (refused (c .before .before .args .code) (c .before .before .args .node)) _ _ refl
+    (omega arith) (c .before .fresh .ensures))
+
+pub refused-spec : {M : Type 1} → statement M
+refused-spec = tie.close (tie.spec fresh-requires refusal-requires returns)

@@ -1,0 +1,335 @@
+// Load: a table from lists of edges, which are judged first.
+use rules::Answer;
+use rules::Made;
+use rules::Record;
+ghost use mathlib.Core.Path.{_≡_};
+ghost use mathlib.Core.List.{List, [], _∷_};
+ghost use Prim.Native.Nat.{ℕ, _+_, _<_, _≤_};
+ghost use lib.ListN.{length, take};
+ghost use Rattle.rules.specs.Table.{mostNodes, mostSlots, handed, refused};
+ghost use Rattle.rules.specs.Fresh.{tabulate, allWhite};
+ghost use Rattle.rules.specs.Meet.{blank, anyEdge};
+ghost use Rattle.rules.specs.Load.{loadSizeOf, badGiven, firstBad, chained, chain};
+ghost use Rattle.rules.specs.Load.{isShared, firstShared, judgeFree, loadBy, load};
+ghost use Rattle.load.specs.GoodEdges.{Below, loadGood};
+ghost use Rattle.base.specs.Lent.{was, is};
+ghost use Rattle.rules.specs.Lent.{leaves};
+
+// Code 1: the sizes of Fresh, and each list has M entries.
+fn size_ok(
+    m: usize,
+    r: usize,
+    lefts: usize,
+    rights: usize,
+    left: usize,
+    right: usize,
+    colour: usize,
+) -> bool
+    ensures { λ ok. ⌜ ok
+        ≡ loadSizeOf m r (lefts ∷ rights ∷ []) (left ∷ right ∷ []) colour ⌝ }
+{
+    if !rules::size_ok(m, r, left, right, colour) {
+        return false;
+    }
+    if lefts != m {
+        return false;
+    }
+    rights == m
+}
+
+// Whether an edge e of node n is bad, or is NIL's and not 0.
+fn bad_given(m: u32, n: usize, e: u32) -> bool
+    ensures { λ b. ⌜ b ≡ badGiven m n e ⌝ }
+{
+    if m <= e {
+        return true;
+    }
+    if e == 1 {
+        return true;
+    }
+    if n != 0 {
+        return false;
+    }
+    e != 0
+}
+
+fn bad_node(lefts: &[u32], rights: &[u32], m: u32, n: usize) -> bool
+    requires { ⌜ n < length (now lefts) ⌝ }
+    requires { ⌜ n < length (now rights) ⌝ }
+    ensures { λ b. ⌜ b ≡ anyEdge (badGiven m n) (was lefts ∷ was rights ∷ []) n ⌝ }
+{
+    if bad_given(m, n, lefts[n]) {
+        return true;
+    }
+    bad_given(m, n, rights[n])
+}
+
+// Code 11: the lowest node with such an edge, m where there is none.
+fn first_bad(lefts: &[u32], rights: &[u32], m: u32) -> usize
+    requires { ⌜ length (now lefts) ≡ m ⌝ }
+    requires { ⌜ length (now rights) ≡ m ⌝ }
+    ensures { λ n. ⌜ n ≡ firstBad m (was lefts ∷ was rights ∷ []) ⌝ }
+{
+    let mut n = 0;
+    while n < lefts.len() {
+        if bad_node(lefts, rights, m, n) {
+            return n;
+        }
+        n += 1;
+    }
+    n
+}
+
+// The edges given, as 16-bit numbers.
+fn narrow(given: &[u32], edges: &mut [u16; rules::MOST_NODES])
+    requires { ⌜ length (now given) ≤ mostNodes ⌝ }
+    requires { ⌜ length (now edges) ≡ mostNodes ⌝ }
+    requires { ⌜ Below mostNodes (now given) ⌝ }
+    ensures { λ _. ⌜ take (length (was given)) (is edges) ≡ was given ⌝ }
+{
+    let mut n = 0;
+    while n < given.len() {
+        edges[n] = given[n] as u16;
+        n += 1;
+    }
+}
+
+// Code 12: the free chain's end, or the first node that breaks it. The free nodes are marked.
+fn chain(left: &[u16], right: &[u16], free: &mut [u8; rules::MOST_NODES], m: u16, r: u16) -> Answer
+    requires { ⌜ 2 ≤ m ⌝ }
+    requires { ⌜ m ≤ mostNodes ⌝ }
+    requires { ⌜ r ≤ mostSlots ⌝ }
+    requires { ⌜ length (now left) ≡ m ⌝ }
+    requires { ⌜ length (now right) ≡ m ⌝ }
+    requires { ⌜ Below m (now left) ⌝ }
+    ensures { λ a. ⌜ chained (is free) a ≡ chain r (was left ∷ was right ∷ []) m (was free) 1 ⌝ }
+{
+    let mut n = 1;
+    let mut k = 0;
+    while k < m {
+        let at = n as usize;
+        if right[at] != 0 {
+            return Answer::refused(12, n);
+        }
+        let next = left[at];
+        if next == 0 {
+            return Answer::Started(n);
+        }
+        if next < r + 2 {
+            return Answer::refused(12, n);
+        }
+        let to = next as usize;
+        if free[to] != 0 {
+            return Answer::refused(12, n);
+        }
+        free[to] = 1;
+        n = next;
+        k += 1;
+    }
+    Answer::refused(12, n)
+}
+
+// Whether node n is free and has a number.
+fn shared(free: &[u8; rules::MOST_NODES], num: &[u16; rules::MOST_NODES], n: u16) -> bool
+    requires { ⌜ n < mostNodes ⌝ }
+    ensures { λ b. ⌜ b ≡ isShared (was free) (was num) n ⌝ }
+{
+    let at = n as usize;
+    if free[at] == 0 {
+        return false;
+    }
+    num[at] != 0
+}
+
+// Code 13: the lowest such node, m where there is none.
+fn first_shared(free: &[u8; rules::MOST_NODES], num: &[u16; rules::MOST_NODES], m: u16) -> u16
+    requires { ⌜ m ≤ mostNodes ⌝ }
+    ensures { λ n. ⌜ n ≡ firstShared m (was free) (was num) ⌝ }
+{
+    let mut n = 0;
+    while n < m {
+        if shared(free, num, n) {
+            return n;
+        }
+        n += 1;
+    }
+    n
+}
+
+// What is answered after the free chain: it, where it is a refusal, or 13, or the chain's end.
+fn judge_free(
+    left: &[u16],
+    right: &[u16],
+    free: &[u8; rules::MOST_NODES],
+    m: u16,
+    r: u16,
+    found: Answer,
+) -> Answer
+    requires { ⌜ 2 ≤ m ⌝ }
+    requires { ⌜ m ≤ mostNodes ⌝ }
+    requires { ⌜ r ≤ mostSlots ⌝ }
+    requires { ⌜ length (now left) ≡ m ⌝ }
+    requires { ⌜ length (now right) ≡ m ⌝ }
+    ensures { λ a. ⌜ a ≡ judgeFree m r (was left ∷ was right ∷ []) (chained (was free) found) ⌝ }
+{
+    if found.code() != 0 {
+        return found;
+    }
+    let mut num = [0u16; rules::MOST_NODES];
+    let mut order = [0u16; rules::MOST_NODES];
+    meet::meet(left, right, &mut num, &mut order, m, r);
+    let n = first_shared(free, &num, m);
+    if n < m {
+        return Answer::refused(13, n);
+    }
+    found
+}
+
+// Codes 12 and 13, for edges that are good.
+fn judge(left: &[u16], right: &[u16], m: u16, r: u16) -> Answer
+    requires { ⌜ 2 ≤ m ⌝ }
+    requires { ⌜ m ≤ mostNodes ⌝ }
+    requires { ⌜ r ≤ mostSlots ⌝ }
+    requires { ⌜ length (now left) ≡ m ⌝ }
+    requires { ⌜ length (now right) ≡ m ⌝ }
+    requires { ⌜ Below m (now left) ⌝ }
+    ensures { λ a. ⌜ a ≡ judgeFree m r (was left ∷ was right ∷ [])
+        (chain r (was left ∷ was right ∷ []) m blank 1) ⌝ }
+{
+    let mut free = [0u8; rules::MOST_NODES];
+    let found = chain(left, right, &mut free, m, r);
+    judge_free(left, right, &free, m, r, found)
+}
+
+fn copy(given: &[u16], edges: &mut [u16])
+    requires { ⌜ length (now edges) ≡ length (now given) ⌝ }
+    ensures { λ _. ⌜ is edges ≡ was given ⌝ }
+{
+    let mut n = 0;
+    while n < given.len() {
+        edges[n] = given[n];
+        n += 1;
+    }
+}
+
+fn whiten(colour: &mut [u8])
+    ensures { λ _. ⌜ is colour ≡ tabulate allWhite (length (was colour)) ⌝ }
+{
+    let mut n = 0;
+    while n < colour.len() {
+        colour[n] = 0;
+        n += 1;
+    }
+}
+
+// The table of lists whose edges are good, or none.
+fn load_table(
+    lefts: &[u16],
+    rights: &[u16],
+    left: &mut [u16],
+    right: &mut [u16],
+    colour: &mut [u8],
+    m: u16,
+    r: u16,
+) -> Made
+    requires { ⌜ 2 ≤ m ⌝ }
+    requires { ⌜ m ≤ mostNodes ⌝ }
+    requires { ⌜ r ≤ mostSlots ⌝ }
+    requires { ⌜ length (now lefts) ≡ m ⌝ }
+    requires { ⌜ length (now rights) ≡ m ⌝ }
+    requires { ⌜ length (now left) ≡ m ⌝ }
+    requires { ⌜ length (now right) ≡ m ⌝ }
+    requires { ⌜ length (now colour) ≡ m ⌝ }
+    requires { ⌜ Below m (now lefts) ⌝ }
+    ensures { λ d. ⌜ leaves d left right colour
+        ≡ loadGood m r (was lefts ∷ was rights ∷ [])
+        (was left ∷ was right ∷ []) (was colour) ⌝ }
+{
+    let answer = judge(lefts, rights, m, r);
+    if answer.code() != 0 {
+        return Made {
+            answer,
+            rec: Record::fresh(0, 0, 0),
+        };
+    }
+    copy(lefts, left);
+    copy(rights, right);
+    whiten(colour);
+    Made {
+        answer,
+        rec: Record::fresh(m, r, answer.node()),
+    }
+}
+
+// The same of lists of 32-bit numbers.
+fn load_good(
+    lefts: &[u32],
+    rights: &[u32],
+    left: &mut [u16],
+    right: &mut [u16],
+    colour: &mut [u8],
+    m: u16,
+    r: u16,
+) -> Made
+    requires { ⌜ 2 ≤ m ⌝ }
+    requires { ⌜ m ≤ mostNodes ⌝ }
+    requires { ⌜ r ≤ mostSlots ⌝ }
+    requires { ⌜ length (now lefts) ≡ m ⌝ }
+    requires { ⌜ length (now rights) ≡ m ⌝ }
+    requires { ⌜ length (now left) ≡ m ⌝ }
+    requires { ⌜ length (now right) ≡ m ⌝ }
+    requires { ⌜ length (now colour) ≡ m ⌝ }
+    requires { ⌜ Below m (now lefts) ⌝ }
+    requires { ⌜ Below m (now rights) ⌝ }
+    ensures { λ d. ⌜ leaves d left right colour
+        ≡ loadGood m r (was lefts ∷ was rights ∷ [])
+        (was left ∷ was right ∷ []) (was colour) ⌝ }
+{
+    let mut l = [0u16; rules::MOST_NODES];
+    let mut g = [0u16; rules::MOST_NODES];
+    narrow(lefts, &mut l);
+    narrow(rights, &mut g);
+    let nodes = m as usize;
+    load_table(&l[0..nodes], &g[0..nodes], left, right, colour, m, r)
+}
+
+// Refused: no table is made.
+fn refused(code: u8, node: u16) -> Made
+    requires { ⌜ 0 < code ⌝ }
+    ensures { λ d. ⌜ ((m r : ℕ) (given edges : List (List ℕ)) (colours : List ℕ)
+        → handed d edges colours ≡ loadBy m r given edges colours (refused code node)) ⌝ }
+{
+    rules::refusal(code, node, Record::fresh(0, 0, 0))
+}
+
+// A table of m nodes and r slots with the edges of two lists, and its record.
+// Refused: 1, 11, 12, 13.
+pub fn load(
+    lefts: &[u32],
+    rights: &[u32],
+    left: &mut [u16],
+    right: &mut [u16],
+    colour: &mut [u8],
+    m: usize,
+    r: usize,
+) -> Made
+    ensures { λ d. ⌜ leaves d left right colour
+        ≡ load m r (was lefts ∷ was rights ∷ []) (was left ∷ was right ∷ []) (was colour) ⌝ }
+{
+    if !size_ok(
+        m,
+        r,
+        lefts.len(),
+        rights.len(),
+        left.len(),
+        right.len(),
+        colour.len(),
+    ) {
+        return refused(1, 0);
+    }
+    let n = first_bad(lefts, rights, m as u32);
+    if n < m {
+        return refused(11, n as u16);
+    }
+    load_good(lefts, rights, left, right, colour, m as u16, r as u16)
+}
