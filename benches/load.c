@@ -4,10 +4,9 @@
    all must answer and leave the same. With arguments: so many runs of one variant on one table, to
    count its instructions. */
 #include "library.h"
+#include "timing.h"
 #include <stdio.h>
-#include <stdlib.h>
 #include <string.h>
-#include <time.h>
 
 enum { M = 4096, R = 64, RUNS = 2001 };
 
@@ -21,22 +20,11 @@ static uint8_t colour[M];
 static const struct table table = {left, right, colour, M, M, M};
 static uint32_t words[JENTURIK_WORDS];
 static struct answer told;
-static uint32_t seed;
-
-static uint32_t below(uint32_t n) {
-    seed ^= seed << 13, seed ^= seed >> 17, seed ^= seed << 5;
-    return seed % n;
-}
 
 /* Chains the nodes from..M-1 on left edges behind a node, in order or shuffled. */
 static void chain(uint32_t behind, uint32_t from, int shuffled) {
     static uint32_t order[M];
-    uint32_t n = 0;
-    for (uint32_t i = from; i < M; i++) order[n++] = i;
-    for (uint32_t i = n; shuffled && i > 1; i--) {
-        uint32_t j = below(i), k = order[i - 1];
-        order[i - 1] = order[j], order[j] = k;
-    }
+    uint32_t n = nodes_of(order, from, M, shuffled);
     for (uint32_t i = 0; i < n; i++) lefts[behind] = order[i], behind = order[i];
     lefts[behind] = 0;
 }
@@ -96,17 +84,6 @@ static uint64_t hash(void) {
            1099511628211u;
 }
 
-static double now(void) {
-    struct timespec t;
-    clock_gettime(CLOCK_MONOTONIC, &t);
-    return t.tv_sec * 1e6 + t.tv_nsec / 1e3;
-}
-
-static int by_size(const void *a, const void *b) {
-    double x = *(const double *)a, y = *(const double *)b;
-    return (x > y) - (x < y);
-}
-
 static double medians[VARIANTS];
 
 static void measure(int kind) {
@@ -119,15 +96,12 @@ static void measure(int kind) {
             memset(colour, 0xa5, sizeof colour);
             double t = now();
             run(v);
-            times[v][k] = now() - t;
+            times[v][k] = (now() - t) / 1e3;
             if (k == 0 && v == 0) first = hash();
             if (k < 3 && hash() != first)
                 fprintf(stderr, "load: variants differ on: %s\n", table_names[kind]), exit(1);
         }
-    for (int v = 0; v < variants; v++) {
-        qsort(times[v], RUNS, sizeof(double), by_size);
-        medians[v] = times[v][RUNS / 2];
-    }
+    for (int v = 0; v < variants; v++) medians[v] = median(times[v], RUNS);
 }
 
 int main(int argc, char **argv) {

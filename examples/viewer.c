@@ -159,6 +159,14 @@ static unsigned draw(void) {
     return sum / PANES / 100;
 }
 
+/* The panel's figure, asked anew in each frame: the layers and tints that can be seen, and what
+ * lies on the bench. */
+static unsigned count_in_use(void) {
+    jenturik_told a = jenturik_in_use(TABLE);
+    if (a.code != JENTURIK_DONE) stop("in_use", a.code, a.node);
+    return a.node;
+}
+
 /* The free nodes: a chain by left edges from node 1. */
 static unsigned count_free(void) {
     unsigned n = 0;
@@ -172,7 +180,7 @@ int main(void) {
         return fputs("viewer: NODES or SLOTS is out of range\n", stderr), 1;
     printf("The lobby's glazing: %d panes, %d nodes, %d collector steps a frame.\n", PANES, NODES,
            BUDGET);
-    puts("Marked are the nodes that the last cycle's marking reached, free ones among them.");
+    puts("In use are the nodes that some slot leads to, free those that can be taken.");
     for (int frame = 1; frame <= SECONDS * FRAMES; frame++) {
         int second = (frame - 1) / FRAMES + 1;
         if (frame == 4 * FRAMES + 1)
@@ -181,12 +189,12 @@ int main(void) {
         edit(second >= 5 && second <= 8 ? 30 : 3);
         jenturik_last steps = jenturik_collect_many(TABLE, BUDGET);
         if (steps.code != JENTURIK_DONE) stop("collect_many", steps.code, steps.node);
-        unsigned light = draw();
+        unsigned light = draw(), used = count_in_use();
         if (frame % FRAMES == 0)
-            printf("second %2d: frame %3d, %3u marked, %3u free, %3u cycles, %4u taken, %3u "
+            printf("second %2d: frame %3d, %3u in use, %3u free, %3u cycles, %4u taken, %3u "
                    "refused, light %2u%%\n",
-                   second, frame, (unsigned)words[JENTURIK_IN_USE], count_free(),
-                   (unsigned)words[JENTURIK_CYCLES], taken, refused, light);
+                   second, frame, used, count_free(), (unsigned)words[JENTURIK_CYCLES], taken,
+                   refused, light);
     }
     return 0;
 }

@@ -10,8 +10,8 @@
  * Make a table once (jenturik_fresh, or jenturik_load with edges that are there already). Edit the
  * graph with jenturik_take and jenturik_link; call jenturik_shade after each link. Spend some
  * collector steps each frame (jenturik_collect_many).
- * The collector finds the nodes that no slot leads to, and makes them free. examples/viewer.c is
- * such a program.
+ * The collector finds the nodes that no slot leads to, and makes them free. How many nodes slots
+ * lead to is told by jenturik_in_use. examples/viewer.c is such a program.
  *
  * What the caller keeps
  *
@@ -95,10 +95,12 @@ enum {
     JENTURIK_CYCLES = 9,     /* cycles completed; stays at its largest value */
     JENTURIK_TOOK = 10,      /* collector steps of the last completed cycle */
     JENTURIK_BLACKENED = 11, /* nodes blackened in this marking */
-    JENTURIK_IN_USE = 12,    /* nodes blackened in the last completed marking: NIL, FREE,
-                                the slots and the free nodes are counted too */
-    JENTURIK_USED = 13,      /* the words from here on are not used yet, and are 0 */
-    JENTURIK_WORDS = 24      /* how many there are */
+    JENTURIK_BLACKENED_LAST_CYCLE = 12, /* nodes blackened in the last completed marking: NIL, FREE,
+                                           the slots and the free nodes are counted too, and what
+                                           became garbage since. For the nodes in use there is
+                                           jenturik_in_use */
+    JENTURIK_USED = 13,                 /* the words from here on are not used yet, and are 0 */
+    JENTURIK_WORDS = 24                 /* how many there are */
 };
 
 /* What was done. */
@@ -112,8 +114,9 @@ enum {
     JENTURIK_LOOKED = 6,     /* the collector: looked at a node */
     JENTURIK_MADE_BLACK = 7, /* the collector: made a node black */
     JENTURIK_WHITENED = 8,   /* the collector: made a black node white; it is kept in this cycle */
-    JENTURIK_APPENDED = 9    /* the collector: appended a white node to the free list: its
+    JENTURIK_APPENDED = 9,   /* the collector: appended a white node to the free list: its
                                 number may be taken again */
+    JENTURIK_COUNTED = 10    /* in use: in place of the node the number of nodes in use */
 };
 
 /* Codes: why a call was refused. */
@@ -140,7 +143,7 @@ enum {
 };
 
 /* An answer: what was done, the code, and the node. A refusal's node is 0, but for codes 7, 11, 12
- * and 13. */
+ * and 13. If nodes were counted, the number stands in place of the node. */
 typedef struct {
     uint32_t what, code, node;
 } jenturik_told;
@@ -182,7 +185,7 @@ jenturik_told jenturik_fresh(uint16_t *left, size_t lefts, uint16_t *right, size
  * free nodes are those that FREE leads to along the left edges; what neither FREE nor a slot leads
  * to is garbage, and may have any good edges. Answers the last free node. Writes all three arrays
  * and the words; the lists are only read, and overlap none of these. On the stack it keeps arrays
- * of 36 KiB.
+ * of 44 KiB.
  * If it is refused (1, 11, 12, 13), the arrays stay as they are and the words become all 0, as with
  * jenturik_fresh. */
 jenturik_told jenturik_load(uint16_t *left, size_t lefts, uint16_t *right, size_t rights,
@@ -196,6 +199,17 @@ jenturik_told jenturik_look(const uint16_t *left, size_t lefts, const uint16_t *
                             size_t rights, const uint8_t *colour, size_t colours,
                             const uint32_t words[JENTURIK_WORDS], uint32_t slot, uint32_t count,
                             uint32_t word);
+
+/* Counts the nodes in use: those that some slot leads to at this moment, the slots' own nodes and
+ * NIL left out. Answers JENTURIK_COUNTED and the number, in place of the node. It does not matter
+ * what the collector has done so far or is doing now: colours are not read. Writes nothing, and a
+ * panel may ask in each frame: its time grows with M alone. On the stack it keeps arrays of 24 KiB.
+ * Refused with 1, 2, and with 7 if a slot, or a node that some slot leads to, has a bad edge, which
+ * leads nowhere: the answer has the lowest such node. Bad edges of other nodes, NIL's among them,
+ * do not matter. */
+jenturik_told jenturik_in_use(const uint16_t *left, size_t lefts, const uint16_t *right,
+                              size_t rights, const uint8_t *colour, size_t colours,
+                              const uint32_t words[JENTURIK_WORDS]);
 
 /* Points an edge of the node at the source place (slot, count, word), on this side, to the node at
  * the target place (toslot, tocount, toword). Answers the target, whose shade is then owed: call

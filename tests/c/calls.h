@@ -7,6 +7,7 @@
 
 enum {
     LOOK,
+    IN_USE,
     LINK,
     SHADE,
     TAKE,
@@ -20,6 +21,7 @@ enum {
 };
 
 static const char *const call_names[CALLS] = {"look",
+                                              "in_use",
                                               "link",
                                               "shade",
                                               "take",
@@ -65,6 +67,8 @@ static inline answer call(lent *t, int which) {
     switch (which) {
     case LOOK:
         return of_told(jenturik_look(LENT(t), 0, 0, 0));
+    case IN_USE:
+        return of_told(ask(t));
     case LINK:
         return of_told(jenturik_link(LENT(t), 0, 0, 0, 0, 0, 0, 0));
     case SHADE:

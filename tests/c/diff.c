@@ -1,6 +1,6 @@
-/* The batch against single steps, and both against plain C: random tables, damaged ones, invented
-   records, wrong lengths. diff RUNS: as many runs; says how many steps were made and which codes
-   came, and ends with 1 at the first difference. */
+/* The batch against single steps, and both against plain C, and In use against plain C: random
+   tables, damaged ones, invented records, wrong lengths. diff RUNS: as many runs; says how many
+   steps were made and which codes came, and ends with 1 at the first difference. */
 #include "library.h"
 #include <stdio.h>
 #include <stdlib.h>
@@ -73,7 +73,7 @@ static void random_record(uint32_t m) {
     x.steps = one_in(3) ? b - 1 - below(b < 60 ? b : 60) : below(b);
     x.cycles = one_in(9) ? UINT32_MAX - below(2) : below(100);
     x.took = below(b + 1), x.blackened = one_in(2) ? m - below(2) : below(m + 1),
-    x.inuse = below(m + 1);
+    x.lastblackened = below(m + 1);
     if (!one_in(12)) return;
     switch (below(10)) {
     case 0:
@@ -104,7 +104,7 @@ static void random_record(uint32_t m) {
         x.blackened = m + below(3);
         break;
     case 9:
-        x.inuse = m + below(3);
+        x.lastblackened = m + below(3);
         break;
     }
 }
@@ -137,6 +137,13 @@ static void by_steps(size_t n) {
         continue;
 }
 
+/* Whether In use differs from plain C on what is lent; counts its codes. */
+static int in_use_differs(const uint32_t *words, uint64_t *codes) {
+    struct answer a = library_in_use(&t, words), b = plain_in_use(&t, words);
+    codes[a.code]++;
+    return memcmp(&a, &b, sizeof a);
+}
+
 static int differ(const struct place *a, const struct place *b) {
     return a->done != b->done || memcmp(a->left, b->left, sizeof a->left) ||
            memcmp(a->right, b->right, sizeof a->right) ||
@@ -145,7 +152,7 @@ static int differ(const struct place *a, const struct place *b) {
 }
 
 int main(int argc, char **argv) {
-    static uint64_t codes[11];
+    static uint64_t codes[11], in_use[11];
     uint64_t runs = argc > 1 ? strtoull(argv[1], 0, 10) : 0, made = 0;
     if (!runs) return fprintf(stderr, "diff RUNS\n"), 2;
     for (uint64_t k = 0; k < runs; k++) {
@@ -158,7 +165,10 @@ int main(int argc, char **argv) {
         t.lefts = t.rights = t.colours = m;
         if (one_in(60)) *(size_t *[]){&t.lefts, &t.rights, &t.colours}[below(3)] = below(m + 3);
         words_of(begun.words, &x);
-        lend(&batch), by_batch(n);
+        lend(&batch);
+        if (in_use_differs(batch.words, in_use))
+            return printf("run %llu: In use differs: M = %u\n", (unsigned long long)k, m), 1;
+        by_batch(n);
         lend(&steps), by_steps(n);
         by_plain(n);
         if (differ(&batch, &steps) || differ(&batch, &plain) ||
@@ -166,9 +176,10 @@ int main(int argc, char **argv) {
             return printf("run %llu differs: M = %u, n = %zu\n", (unsigned long long)k, m, n), 1;
         made += batch.done, codes[batch.answer.code]++;
     }
-    printf("%llu runs, %llu steps, no difference; code 0: %llu, 1: %llu, 2: %llu, 7: %llu\n",
+    printf("%llu runs, %llu steps, no difference; code 0: %llu, 1: %llu, 2: %llu, 7: %llu; In use "
+           "0: %llu, 7: %llu\n",
            (unsigned long long)runs, (unsigned long long)made, (unsigned long long)codes[0],
-           (unsigned long long)codes[1], (unsigned long long)codes[2],
-           (unsigned long long)codes[7]);
+           (unsigned long long)codes[1], (unsigned long long)codes[2], (unsigned long long)codes[7],
+           (unsigned long long)in_use[0], (unsigned long long)in_use[7]);
     return 0;
 }

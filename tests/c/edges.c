@@ -1,6 +1,7 @@
 /* What every call must refuse: null arrays [C 11], wrong lengths [Codes 1], words that are no
  * record [C 4], records out of range [Codes 2], jenturik_fresh's sizes [Fresh 7], and all that
- * jenturik_load judges [Load 6] [Load 7].
+ * jenturik_load judges [Load 6] [Load 7]. And what jenturik_in_use counts [In use 1], refuses
+ * [In use 2] and does not read [In use 3].
  * The last line is 'N passed, M failed'. */
 #define _DEFAULT_SOURCE
 #include "lists.h"
@@ -81,8 +82,9 @@ static void too_wide(int word) {
 }
 
 static void words_of_phase(uint32_t phase, uint32_t owes) {
-    static const int wide[] = {JENTURIK_NODES, JENTURIK_SLOTS, JENTURIK_I,         JENTURIK_K,
-                               JENTURIK_OWED,  JENTURIK_LAST,  JENTURIK_BLACKENED, JENTURIK_IN_USE};
+    static const int wide[] = {
+        JENTURIK_NODES, JENTURIK_SLOTS, JENTURIK_I,         JENTURIK_K,
+        JENTURIK_OWED,  JENTURIK_LAST,  JENTURIK_BLACKENED, JENTURIK_BLACKENED_LAST_CYCLE};
     static const uint32_t no_phase[] = {6, 7, 256, BIG}, no_owes[] = {2, 256, 257, BIG, BIG + 1};
     bad = sound;
     set_phase(&bad, phase, owes);
@@ -110,7 +112,7 @@ static void numbers_of_phase(uint32_t phase) {
     if (phase == 1) put_word(JENTURIK_K, 0, 2), put_word(JENTURIK_K, M + 1, 2);
     put_word(JENTURIK_OWED, 1, 2), put_word(JENTURIK_OWED, M, 2);
     put_word(JENTURIK_LAST, 0, 2), put_word(JENTURIK_LAST, R + 1, 2), put_word(JENTURIK_LAST, M, 2);
-    put_word(JENTURIK_BLACKENED, M + 1, 2), put_word(JENTURIK_IN_USE, M + 1, 2);
+    put_word(JENTURIK_BLACKENED, M + 1, 2), put_word(JENTURIK_BLACKENED_LAST_CYCLE, M + 1, 2);
     put_word(JENTURIK_STEPS, bound, 2), put_word(JENTURIK_STEPS, UINT32_MAX, 2);
     put_word(JENTURIK_TOOK, bound + 1, 2), put_word(JENTURIK_TOOK, UINT32_MAX, 2);
     bad.words[JENTURIK_CYCLES] = UINT32_MAX, bad.words[JENTURIK_STEPS] = bound - 1,
@@ -118,6 +120,7 @@ static void numbers_of_phase(uint32_t phase) {
     lend(&t, &bad, 1);
     check(jenturik_look(LENT(&t), 0, 0, 0).code == 0, "a record at its limits is accepted", "look",
           (long)phase);
+    check(ask(&t).code == 0, "a record at its limits is accepted", "in_use", (long)phase);
 }
 
 /* Whether words are a record's, by the header. */
@@ -327,6 +330,99 @@ static void load_edges(void) {
     load_accepted();
 }
 
+/* In use of the bad table: the code and the number or node; everything stays. */
+static void tells(uint32_t code, uint32_t number, const char *why, long n) {
+    for (int high = 0; high < 2; high++) {
+        lend(&t, &bad, high);
+        jenturik_told a = ask(&t);
+        take_back(&t, &after);
+        check(a.code == code && a.node == number &&
+                  a.what == (code == 0 ? JENTURIK_COUNTED : JENTURIK_REFUSED),
+              why, "in_use", n);
+        check(same(&bad, &after), "nothing is changed", "in_use", n);
+    }
+}
+
+/* Sound tables of 9 nodes and 2 slots: 2 and 3 are the slots' nodes, from 4 on all are free. */
+static void in_use_counts(void) {
+    bad = other, tells(0, 0, "a fresh table", 0);
+    bad.left[2] = 3, bad.right[3] = 2, bad.right[2] = 2, tells(0, 0, "slots alone", 0);
+    bad.left[1] = 7, bad.left[3] = 5, bad.left[5] = 0, tells(0, 1, "one node", 5);
+    bad.right[5] = 4, bad.left[4] = 6, bad.left[6] = 5, bad.right[6] = 3;
+    tells(0, 3, "a ring through a slot", 3);
+    bad.right[2] = 6, tells(0, 3, "a node that two lead to", 6);
+    bad.left[1] = 0, bad.left[8] = 4, bad.right[7] = 5, tells(0, 3, "garbage leads to nodes", 3);
+    bad.left[6] = bad.left[3] = 0, tells(0, 1, "two of them cut off", 1);
+    make_fresh(&bad, 3, 1), tells(0, 0, "3 nodes", 3);
+    make_fresh(&bad, 66, 64), tells(0, 0, "66 nodes and 64 slots", 66);
+    make_fresh(&bad, 4096, 64), bad.left[65] = 66, bad.left[1] = 0;
+    tells(0, 4030, "4096 nodes, all in use", 4096);
+}
+
+/* The same number whatever the colours are, in each phase, and with a shade owed or not. */
+static void in_use_reads(void) {
+    bad = other, bad.right[3] = 7;
+    for (uint32_t phase = 0; phase < 6; phase++) {
+        set_phase(&bad, phase, phase % 2);
+        for (uint32_t i = 0; i < M; i++) bad.colour[i] = (uint8_t)below(256);
+        tells(0, 2, "any colours, each phase", (long)phase);
+    }
+}
+
+/* Node 4 is in use, and leads to 7 and 8, and 6 is garbage. One edge becomes bad, or two. */
+static void in_use_edge(uint32_t node, int side, uint16_t edge) {
+    (side == 0 ? bad.left : bad.right)[node] = edge;
+}
+
+static void make_in_use(void) {
+    bad = other;
+    bad.left[1] = 5, bad.left[5] = bad.left[6] = 0;
+    bad.right[2] = 4, bad.left[4] = 7, bad.right[4] = 8, bad.left[7] = bad.left[8] = 0;
+}
+
+static void in_use_refuses(void) {
+    static const uint16_t wrong[] = {1, M, M + 4, 255 * 256 + 4, 65535};
+    static const uint32_t judged[] = {2, 3, 4, 7, 8}, passed_by[] = {0, 1, 5, 6};
+    for (int i = 0; i < 5; i++)
+        for (int side = 0; side < 2; side++) {
+            for (int j = 0; j < 5; j++) {
+                if (judged[j] == 2 && side == 1) continue; /* the way to 4, 7 and 8 */
+                make_in_use(), in_use_edge(judged[j], side, wrong[i]);
+                tells(7, judged[j], "a bad edge", (long)wrong[i]);
+            }
+            for (int j = 0; j < 4; j++) {
+                make_in_use(), in_use_edge(passed_by[j], side, wrong[i]);
+                tells(0, 3, "a bad edge where no slot leads", (long)passed_by[j]);
+            }
+        }
+    make_in_use(), in_use_edge(8, 0, 1), in_use_edge(7, 1, M), in_use_edge(6, 0, 1);
+    tells(7, 7, "the lowest", 7);
+    in_use_edge(4, 0, 65535), tells(7, 4, "the lowest", 4);
+    in_use_edge(4, 0, 7), in_use_edge(4, 1, M), tells(7, 4, "the lowest", 4);
+    make_in_use(), bad.right[2] = 8, bad.left[8] = 4, in_use_edge(8, 1, 1), in_use_edge(4, 0, 1);
+    tells(7, 4, "past a bad edge along the good one", 4);
+    bad.left[8] = 0, tells(7, 8, "none behind a bad edge", 8);
+    bad.words[JENTURIK_LAST] = 0, tells(2, 0, "2 comes before 7", 2);
+    bad.colours--, tells(1, 0, "1 comes before 2", 1);
+}
+
+/* Damaged: a slot leads to free nodes, which count as others do. */
+static void in_use_free(void) {
+    bad = other, bad.left[2] = 5, tells(0, 4, "free nodes that a slot leads to", 4);
+    bad.left[3] = 4, tells(0, 5, "all of them", 5);
+    make_fresh(&bad, 4096, 64), bad.right[65] = 66, bad.right[4095] = 4096;
+    tells(7, 4095, "the last of 4096 nodes", 4095);
+    bad.right[4095] = 0, bad.left[2] = 1, tells(7, 2, "a slot of 4096 nodes", 2);
+}
+
+static void in_use_edges(void) {
+    make_fresh(&other, M, R);
+    in_use_counts();
+    in_use_reads();
+    in_use_refuses();
+    in_use_free();
+}
+
 int main(void) {
     trial_open();
     lists_open();
@@ -338,5 +434,6 @@ int main(void) {
     random_words(20000);
     fresh_edges();
     load_edges();
+    in_use_edges();
     return trial_close();
 }

@@ -1,4 +1,5 @@
 #include "plain.h"
+#include "jenturik.h"
 #include <string.h>
 
 static struct answer say(uint16_t kind, uint16_t code, uint16_t node) {
@@ -17,7 +18,7 @@ int plain_check(const struct table *t, const struct record *x) {
     if (x->phase == SCAN && (x->k < 1 || x->k > m)) return 2;
     if (x->owes && (x->owed == 1 || x->owed >= m)) return 2;
     if (x->last != 1 && (x->last < r + 2 || x->last >= m)) return 2;
-    if (x->blackened > m || x->inuse > m || x->steps >= b || x->took > b) return 2;
+    if (x->blackened > m || x->lastblackened > m || x->steps >= b || x->took > b) return 2;
     return 0;
 }
 
@@ -56,7 +57,7 @@ static inline struct answer look(const struct table *t, struct record *x) {
     } else if (x->k == 1) {
         x->phase = APPEND;
         x->i = 0;
-        x->inuse = x->blackened;
+        x->lastblackened = x->blackened;
     } else {
         x->k--;
         x->i = next(x);
@@ -232,4 +233,54 @@ struct answer plain_load(const struct table *t, struct record *x, const uint32_t
     memset(t->colour, 0, m);
     x->m = m, x->r = r, x->last = a.node;
     return a;
+}
+
+/* The record that the words are, if they are one's. */
+static int read_record(struct record *x, const uint32_t *w) {
+    uint32_t wide = w[JENTURIK_NODES] | w[JENTURIK_SLOTS] | w[JENTURIK_I] | w[JENTURIK_K] |
+                    w[JENTURIK_OWED] | w[JENTURIK_LAST] | w[JENTURIK_BLACKENED] |
+                    w[JENTURIK_BLACKENED_LAST_CYCLE],
+             unused = 0;
+    for (int i = JENTURIK_USED; i < JENTURIK_WORDS; i++) unused |= w[i];
+    if (wide > 65535 || unused != 0 || w[JENTURIK_PHASE] > APPEND || w[JENTURIK_OWES] > 1) return 0;
+    if (w[JENTURIK_PHASE] != SCAN && w[JENTURIK_K] != 0) return 0;
+    if (w[JENTURIK_OWES] == 0 && w[JENTURIK_OWED] != 0) return 0;
+    x->m = w[JENTURIK_NODES], x->r = w[JENTURIK_SLOTS], x->phase = w[JENTURIK_PHASE];
+    x->i = w[JENTURIK_I], x->k = w[JENTURIK_K], x->owes = w[JENTURIK_OWES];
+    x->owed = w[JENTURIK_OWED], x->last = w[JENTURIK_LAST], x->steps = w[JENTURIK_STEPS];
+    x->cycles = w[JENTURIK_CYCLES], x->took = w[JENTURIK_TOOK];
+    x->blackened = w[JENTURIK_BLACKENED], x->lastblackened = w[JENTURIK_BLACKENED_LAST_CYCLE];
+    return 1;
+}
+
+/* Counts what the slots reach, with a queue of the nodes whose edges are still to be followed; and
+ * notes the lowest node that has a bad edge. */
+static struct answer count(const uint16_t *left, const uint16_t *right, uint32_t m, uint32_t r) {
+    uint8_t reached[NODES];
+    uint32_t queue[NODES], head = 0, tail = 0, hurt = m;
+    memset(reached, 0, m);
+    reached[0] = 1;
+    for (uint32_t n = 2; n < r + 2; n++) reached[n] = 1, queue[tail++] = n;
+    while (head < tail) {
+        uint32_t n = queue[head++], l = left[n], g = right[n];
+        if (bad_edge(l, m)) {
+            if (n < hurt) hurt = n;
+        } else if (!reached[l]) {
+            reached[l] = 1, queue[tail++] = l;
+        }
+        if (bad_edge(g, m)) {
+            if (n < hurt) hurt = n;
+        } else if (!reached[g]) {
+            reached[g] = 1, queue[tail++] = g;
+        }
+    }
+    return hurt < m ? say(REFUSED, 7, hurt) : say(COUNTED, 0, tail - r);
+}
+
+struct answer plain_in_use(const struct table *t, const uint32_t *words) {
+    struct record x;
+    if (!read_record(&x, words)) return say(REFUSED, 2, 0);
+    int code = plain_check(t, &x);
+    if (code) return say(REFUSED, code, 0);
+    return count(t->left, t->right, x.m, x.r);
 }

@@ -1,18 +1,31 @@
-/* The collector in plain C, to measure against: one step, many steps with memchr, and Load. */
+/* The collector in plain C, to measure against: one step, many steps with memchr, Load and In
+   use. */
 #ifndef PLAIN_H
 #define PLAIN_H
 #include <stddef.h>
 #include <stdint.h>
 
 enum phase { ROOTS, SCAN, LEFT, RIGHT, BLACK, APPEND };
-enum kind { REFUSED, STARTED, NAMED, LINKED, TAKEN, SHADED, LOOKED, BLACKENED, WHITENED, APPENDED };
+enum kind {
+    REFUSED,
+    STARTED,
+    NAMED,
+    LINKED,
+    TAKEN,
+    SHADED,
+    LOOKED,
+    BLACKENED,
+    WHITENED,
+    APPENDED,
+    COUNTED
+};
 
 struct record {
     uint16_t m, r, phase, i, k;
     uint16_t owes, owed; /* whether a shade is owed, and for which node */
     uint16_t last;
     uint32_t steps, cycles, took;
-    uint16_t blackened, inuse;
+    uint16_t blackened, lastblackened;
 };
 
 struct answer {
@@ -30,5 +43,6 @@ struct answer plain_step(const struct table *t, struct record *x);
 struct answer plain_load(const struct table *t, struct record *x, const uint32_t *lefts,
                          size_t given_lefts, const uint32_t *rights, size_t given_rights,
                          uint32_t m, uint32_t r);
+struct answer plain_in_use(const struct table *t, const uint32_t *words);
 size_t plain_many(const struct table *t, struct record *x, size_t n, struct answer *last);
 #endif

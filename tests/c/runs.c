@@ -1,5 +1,6 @@
 /* Calls in a row: many collector steps at once against single ones, schedules against single steps,
- * every code from a sound table, NIL owed, and that what is lent for reading only is not written.
+ * every code from a sound table, NIL owed, nodes in use along runs, and that what is lent for
+ * reading only is not written.
  * The last line is 'N passed, M failed'. */
 #define _DEFAULT_SOURCE
 #include "trial.h"
@@ -273,6 +274,35 @@ static void reading_only(void) {
     fence_forbid(&call_steps, 0);
 }
 
+/* The free nodes. */
+static uint32_t count_free(void) {
+    uint32_t n = 0;
+    for (uint32_t node = t.l[1]; node != 0; node = t.l[node]) n++;
+    return n;
+}
+
+/* In a run In use is never refused, and counts no free node [In use 4]. Where nothing is edited
+ * from the end of a cycle to the end of the next marking, blackened last cycle is that number with
+ * NIL, FREE, the slots' and the free nodes. */
+static void in_use_along_runs(uint32_t tables) {
+    uint32_t wrong = 0, quiet = 0, most = 0;
+    for (uint32_t i = 0; i < tables; i++) {
+        uint32_t m = 3 + below(30), r = 1 + below(m - 2), bound = m * m + 5 * m + r + 2;
+        make_sound(&start, m, r, below(12));
+        lend(&t, &start, (int)(i % 2));
+        jenturik_told a = ask(&t);
+        wrong += a.code != 0 || a.what != JENTURIK_COUNTED || a.node + count_free() + r + 2 > m;
+        jenturik_collect_many(LENT(&t), 3 * (size_t)bound);
+        jenturik_told b = ask(&t);
+        wrong += b.code != 0 || b.node != a.node;
+        quiet += t.w[JENTURIK_BLACKENED_LAST_CYCLE] != b.node + count_free() + r + 2;
+        if (b.node > most) most = b.node;
+    }
+    check(wrong == 0, "nodes in use, free ones left out", "in_use", (long)wrong);
+    check(quiet == 0, "what blackened last cycle counts besides", "in_use", (long)quiet);
+    check(most > 5, "some tables have nodes in use", "in_use", (long)most);
+}
+
 int main(void) {
     trial_open();
     check(sizeof(jenturik_step) == JENTURIK_STEP_WORDS * sizeof(uint32_t), "a step's words",
@@ -285,6 +315,7 @@ int main(void) {
     every_code();
     nil_owed();
     schedules();
+    in_use_along_runs(2000);
     for (uint32_t kind = 0; kind < 6; kind++) unused_words(kind);
     reading_only();
     return trial_close();

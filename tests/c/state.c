@@ -9,6 +9,7 @@
  *   others by jenturik_schedule, one by one.
  * - state --fresh: jenturik_fresh.
  * - state --load: jenturik_load.
+ * - state --inuse: jenturik_in_use, which may write nothing.
  *
  * Lines have numbers of 64 bits, the library's have 32: a larger one becomes the largest. Both
  * refuse either where they read it; a record's number that does not fit its words would show as a
@@ -232,12 +233,28 @@ static void load_line(void) {
     put_state(&after);
 }
 
+static void in_use_line(void) {
+    read_state();
+    lend(&t, &given, high);
+    jenturik_told a = ask(&t);
+    take_back(&t, &after);
+    if (a.what != (a.code == 0 ? JENTURIK_COUNTED : JENTURIK_REFUSED))
+        fence_fail("in use tells that it did something else");
+    if (!same(&given, &after)) fence_fail("in use leaves another state");
+    put(a.code);
+    put(a.node);
+}
+
 int main(int argc, char **argv) {
-    static const char *const names[] = {"--state", "--run", "--many", "--fresh", "--load"};
-    static void (*const modes[])(void) = {state_line, run_line, many_line, fresh_line, load_line};
-    int mode = 0;
-    while (mode < 5 && (argc != 2 || strcmp(argv[1], names[mode]) != 0)) mode++;
-    if (mode == 5) fence_fail("usage: state --state | --run | --many | --fresh | --load");
+    static const char *const names[] = {"--state", "--run",  "--many",
+                                        "--fresh", "--load", "--inuse"};
+    static void (*const modes[])(void) = {state_line, run_line,  many_line,
+                                          fresh_line, load_line, in_use_line};
+    enum { MODES = sizeof modes / sizeof *modes };
+    size_t mode = 0;
+    while (mode < MODES && (argc != 2 || strcmp(argv[1], names[mode]) != 0)) mode++;
+    if (mode == MODES)
+        fence_fail("usage: state --state | --run | --many | --fresh | --load | --inuse");
     lent_open(&t);
     lists_open();
     fence_open(&order);

@@ -66,6 +66,21 @@ static inline int same(const table *a, const table *b) {
            memcmp(a->colour, b->colour, a->colours) == 0;
 }
 
+static inline void lent_forbid(const lent *t, int forbid) {
+    fence_forbid(&t->lefts, forbid);
+    fence_forbid(&t->rights, forbid);
+    fence_forbid(&t->colours, forbid);
+    fence_forbid(&t->words, forbid);
+}
+
+/* In use, to which all is lent for reading only: a write would end the program. */
+static inline jenturik_told ask(const lent *t) {
+    lent_forbid(t, 1);
+    jenturik_told a = jenturik_in_use(LENT(t));
+    lent_forbid(t, 0);
+    return a;
+}
+
 /* A step of a kind up to 4 by its own call. */
 static inline jenturik_told own_call(lent *t, const uint32_t *s) {
     switch (s[0]) {

@@ -24,6 +24,7 @@
 jenturik_told __real_jenturik_fresh(ARRAYS, uint32_t *words, uint32_t nodes, uint32_t slots);
 jenturik_told __real_jenturik_load(ARRAYS, uint32_t *words, LISTS, uint32_t nodes, uint32_t slots);
 jenturik_told __real_jenturik_look(READ_ARRAYS, const uint32_t *words, PLACE);
+jenturik_told __real_jenturik_in_use(READ_ARRAYS, const uint32_t *words);
 jenturik_told __real_jenturik_link(EDGES_ARRAYS, uint32_t *words, PLACE, uint32_t side,
                                    uint32_t toslot, uint32_t tocount, uint32_t toword);
 jenturik_told __real_jenturik_shade(COLOUR_ARRAYS, uint32_t *words);
@@ -80,6 +81,77 @@ jenturik_told __wrap_jenturik_look(READ_ARRAYS, const uint32_t *words, PLACE) {
         ((volatile uint8_t *)(uintptr_t)colour)[0] =
             colour[0]; /* writes, though it changes nothing */
     return __real_jenturik_look(TABLE, slot, count, word);
+}
+
+/* What In use is asked of, and which nodes were met. */
+typedef struct {
+    const uint16_t *left, *right;
+    uint32_t m, r;
+    uint8_t met[4096];
+} asked;
+
+static int bad_edge(const asked *q, uint32_t e) { return e == 1 || e >= q->m; }
+
+static int hurt(const asked *q, uint32_t n) {
+    return bad_edge(q, q->left[n]) || bad_edge(q, q->right[n]);
+}
+
+/* Meets node n and all that it leads to. */
+static void meet(asked *q, uint32_t n) {
+    uint32_t waiting[2 * 4096 + 1] = {n}, count = 1;
+    while (count > 0) {
+        n = waiting[--count];
+        if (n == 0 || bad_edge(q, n) || q->met[n]) continue;
+        q->met[n] = 1;
+        if (wrong(30) && hurt(q, n)) continue; /* goes no further from a node with a bad edge */
+        waiting[count++] = q->left[n];
+        if (!wrong(31)) waiting[count++] = q->right[n]; /* follows no right edge */
+    }
+}
+
+/* Whether node n is judged and is refused with 7. */
+static int refused(const asked *q, uint32_t n, const uint8_t *colour) {
+    if (wrong(32) && n < q->r + 2) return 0;                    /* judges no slot's node */
+    if (wrong(33)) return hurt(q, n);                           /* judges unreached nodes */
+    if (wrong(34) && n == 0) return hurt(q, n);                 /* judges NIL */
+    if (wrong(35) && q->met[n] && colour[n] > 2) return 1;      /* reads colours */
+    if (wrong(36)) return q->met[n] && bad_edge(q, q->left[n]); /* judges no right edge */
+    return q->met[n] && hurt(q, n);
+}
+
+/* In use where codes 1 and 2 are passed; where nothing is wrong, what the true one answers. */
+static jenturik_told count_in_use(asked *q, const uint8_t *colour) {
+    jenturik_told a = {JENTURIK_COUNTED, 0, 0}, damaged = {JENTURIK_REFUSED, JENTURIK_DAMAGED, 0};
+    memset(q->met, 0, sizeof q->met);
+    for (uint32_t n = 2; n < q->r + 2; n++) meet(q, n);
+    for (uint32_t n = 0; n < q->m; n++)
+        if (refused(q, n, colour) && (wrong(37) || a.code == 0)) /* not the lowest */
+            damaged.node = n, a.code = JENTURIK_DAMAGED;
+    if (a.code != 0 && !wrong(38)) return damaged; /* counts what a damaged table has */
+    for (uint32_t n = q->r + 2; n < q->m; n++) a.node += q->met[n];
+    a.code = 0;
+    if (wrong(39)) a.node += q->r; /* counts slots' nodes */
+    if (wrong(40)) a.node += 1;    /* counts NIL */
+    if (wrong(41))                 /* counts the free nodes */
+        for (uint32_t n = q->left[1]; n != 0 && !bad_edge(q, n) && a.node < q->m; n = q->left[n])
+            a.node++;
+    return a;
+}
+
+jenturik_told __wrap_jenturik_in_use(READ_ARRAYS, const uint32_t *words) {
+    static asked q;
+    uint32_t other[JENTURIK_WORDS] = {[JENTURIK_LAST] = 1};
+    jenturik_told a = __real_jenturik_in_use(TABLE);
+    memcpy(other, words, 2 * sizeof *other); /* M and R */
+    if (wrong(42) && a.code == 2)            /* ignores code 2 */
+        a = __real_jenturik_in_use(left, lefts, right, rights, colour, colours, other);
+    q.left = left, q.right = right, q.m = words[JENTURIK_NODES], q.r = words[JENTURIK_SLOTS];
+    if (a.code == 0 || a.code == 7) a = count_in_use(&q, colour);
+    if (wrong(43)) /* writes, though it changes nothing */
+        ((volatile uint32_t *)(uintptr_t)words)[JENTURIK_WORDS - 1] = words[JENTURIK_WORDS - 1];
+    if (wrong(44) && a.code == 7) a.node = 0;              /* a refusal's node is lost */
+    if (wrong(45) && a.code == 0) a.what = JENTURIK_NAMED; /* tells another deed */
+    return a;
 }
 
 jenturik_told __wrap_jenturik_link(EDGES_ARRAYS, uint32_t *words, PLACE, uint32_t side,

@@ -1,6 +1,6 @@
--- What a call leaves as it was: Look everything, a refused step everything too, the words among it;
--- many steps in one call leave what those that were done left; a refused Fresh or Load leaves the
--- slices.
+-- What a call leaves as it was: Look, and a call that only answers, everything; a refused step
+-- everything too, the words among it; many steps in one call leave what those that were done left;
+-- a refused Fresh or Load leaves the slices.
 use Prim.Native.Nat.{ℕ, _%_}
 use mathlib.Core.Bool.{true}
 use mathlib.Core.List.{List, [], _∷_}
@@ -32,7 +32,7 @@ use Rattle.rules.proofs.Refused.{refused-stays}
 use Rattle.schedule.proofs.PartOfRun.{schedule-run}
 use Rattle.record_words.specs.Words.{wordsOf, recordOf, isRecord}
 use Rattle.record_words.proofs.RoundTrip.{words-back}
-use Rattle.jenturik_c.specs.Face.{Faced, toldOf, shown, faced, face}
+use Rattle.jenturik_c.specs.Face.{Faced, toldOf, shown, faced, face, asking}
 use Rattle.jenturik_c.specs.Flat.{stepsOf, scheduleOf, STEP_WORDS}
 use Rattle.jenturik_c.specs.Many.{FacedRun, facedRun, shownRun, faceRun}
 use Rattle.jenturik_c.specs.declared.Told.{Told}
@@ -84,6 +84,15 @@ module _ (l r c w : List ℕ) where
   looked h p d x t e k v =
       let same = ap (λ (o : Outcome). o .state) k ∙ look-stays (state l r c x) p in
       let back = ap wordsOf (ap (λ (s : State). s .rec) same ∙ e) ∙ words-back w h in
+      pick-yes _ _ _ _ h (rw (← e, ← k, back, v))
+
+  -- the same of a call that only answers
+  pub asked : true ≡ isRecord w → (f : State → Answer) (a : Answer) (x : Record) (t : Told)
+      → x ≡ recordOf w → a ≡ f (state l r c x) → t ≡ toldOf a
+      → faced t l r c w ≡ face (asking f) l r c w
+  unfolding face
+  asked h f a x t e k v =
+      let back = ap wordsOf e ∙ words-back w h in
       pick-yes _ _ _ _ h (rw (← e, ← k, back, v))
 
   -- a call of one step that is refused changes neither the slices nor the words, whatever they are

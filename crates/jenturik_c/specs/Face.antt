@@ -2,12 +2,13 @@
 use Rattle.base.specs.Choice.{pick}
 use Prim.Native.Nat.{ℕ}
 use mathlib.Core.List.{List, [], _∷_}
-use Rattle.rules.specs.Table.{State, Outcome, state}
+use Rattle.rules.specs.Table.{State, Outcome, state, did}
 use Rattle.rules.specs.Steps.{codeOf, nodeOf}
 use Rattle.rules.specs.declared.Place.{Place}
 use Rattle.rules.specs.declared.Answer.{Answer}
 use Rattle.rules.specs.declared.Answer.the-variants.{Started, Named, Linked, Taken, Shaded, Looked}
-use Rattle.rules.specs.declared.Answer.the-variants.{Blackened, Whitened, Appended, Refused}
+use Rattle.rules.specs.declared.Answer.the-variants.{Blackened, Whitened, Appended, Counted}
+use Rattle.rules.specs.declared.Answer.the-variants.{Refused}
 use Rattle.record_words.specs.Words.{wordsOf, recordOf, isRecord}
 use Rattle.jenturik_c.specs.declared.Told.{Told}
 
@@ -23,6 +24,7 @@ whatOf (Looked n) = 6
 whatOf (Blackened n) = 7
 whatOf (Whitened n) = 8
 whatOf (Appended n) = 9
+whatOf (Counted k) = 10
 
 abbrev pub toldOf : Answer → Told
 toldOf a = record { what = whatOf a; code = codeOf a; node = nodeOf a }
@@ -55,6 +57,10 @@ noRecord = record { what = 0; code = 2; node = 0 }
 -- [C 1] the call f, where the words are a record's; [C 4] else nothing changes
 unfoldable pub face : (State → Outcome) → List ℕ → List ℕ → List ℕ → List ℕ → Faced
 face f l r c w = pick (isRecord w) (shown (f (state l r c (recordOf w)))) (faced noRecord l r c w)
+
+-- [In use 3] a call that only answers: the state stays
+abbrev pub asking : (State → Answer) → State → Outcome
+asking f s = did (f s) s (s .rec)
 
 -- a place as a caller gives it
 abbrev pub placeOf : ℕ → ℕ → ℕ → Place

@@ -12,10 +12,12 @@ ghost use lib.ListN.{length};
 ghost use mathlib.Core.Bool.{true};
 ghost use Rattle.rules.specs.Fresh.{fresh};
 ghost use Rattle.rules.specs.Load.{load};
+ghost use Rattle.rules.specs.InUse.{inUse};
 ghost use Rattle.rules.specs.Steps.{step, taking, linking, shading, collecting, looking};
 ghost use Rattle.rules.specs.Schedules.{ran, schedule, collects};
 ghost use Rattle.record_words.specs.Words.{isRecord};
-ghost use Rattle.jenturik_c.specs.Face.{whatOf, toldOf, noRecord, shown, placeOf};
+ghost use Rattle.jenturik_c.specs.Face.{whatOf, toldOf, noRecord, shown, asking};
+ghost use Rattle.jenturik_c.specs.Face.{placeOf};
 ghost use Rattle.jenturik_c.specs.Flat.{STEP_WORDS, zeros, kindAt, ofKind, stepAt, stepsOf};
 ghost use Rattle.jenturik_c.specs.Flat.{scheduleOf};
 ghost use Rattle.jenturik_c.specs.Many.{lastOf};
@@ -88,6 +90,7 @@ fn what(a: Answer) -> u16
         Answer::Blackened(_) => 7,
         Answer::Whitened(_) => 8,
         Answer::Appended(_) => 9,
+        Answer::Counted(_) => 10,
     }
 }
 
@@ -188,6 +191,25 @@ pub extern "C" fn jenturik_look(
     let p = Place { slot, count, word };
     let made = editor::look(left, right, colour, record_words::record_of(w), p);
     let answer = made.answer;
+    tell(answer)
+}
+
+// How many nodes some slot reaches; nothing is written.
+#[no_mangle]
+pub extern "C" fn jenturik_in_use(
+    left: &[u16],
+    right: &[u16],
+    colour: &[u8],
+    words: &[u32; record_words::WORDS],
+) -> Told
+    ensures { λ t. ⌜ tells t (kept left) (kept right) (kept colour) (kept words)
+        ≡ facing (asking inUse) left right colour words ⌝ }
+{
+    let w = *words;
+    if !record_words::is_record(w) {
+        return no_record();
+    }
+    let answer = in_use::in_use(left, right, colour, record_words::record_of(w));
     tell(answer)
 }
 

@@ -176,7 +176,7 @@ fn judge_free(
         return found;
     }
     let mut num = [0u16; rules::MOST_NODES];
-    let mut order = [0u16; rules::MOST_NODES];
+    let mut order = [0u32; rules::MOST_NODES];
     meet::meet(left, right, &mut num, &mut order, m, r);
     let n = first_shared(free, &num, m);
     if n < m {

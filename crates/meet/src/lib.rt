@@ -11,7 +11,7 @@ ghost use Rattle.reach.specs.Numbered.{Kept};
 // Node n is met: it gets the next number, unless it has one, is NIL or is none of the table's.
 fn visit(
     num: &mut [u16; rules::MOST_NODES],
-    order: &mut [u16; rules::MOST_NODES],
+    order: &mut [u32; rules::MOST_NODES],
     m: u16,
     n: u16,
     tail: usize,
@@ -23,25 +23,25 @@ fn visit(
     if m <= n {
         return tail;
     }
+    let at = n as usize;
+    if num[at] != 0 {
+        return tail;
+    }
     if n == 1 {
         return tail;
     }
     if n == 0 {
         return tail;
     }
-    let at = n as usize;
-    if num[at] != 0 {
-        return tail;
-    }
     num[at] = tail as u16;
-    order[tail] = n;
+    order[tail] = n as u32;
     tail + 1
 }
 
 // The slots' nodes, in rising order.
 fn visit_slots(
     num: &mut [u16; rules::MOST_NODES],
-    order: &mut [u16; rules::MOST_NODES],
+    order: &mut [u32; rules::MOST_NODES],
     m: u16,
     r: u16,
 ) -> usize
@@ -66,9 +66,9 @@ fn visit_edges(
     left: &[u16],
     right: &[u16],
     num: &mut [u16; rules::MOST_NODES],
-    order: &mut [u16; rules::MOST_NODES],
+    order: &mut [u32; rules::MOST_NODES],
     m: u16,
-    n: u16,
+    n: u32,
     tail: usize,
 ) -> usize
     requires { ⌜ m ≤ mostNodes ⌝ }
@@ -88,7 +88,7 @@ fn visit_rest(
     left: &[u16],
     right: &[u16],
     num: &mut [u16; rules::MOST_NODES],
-    order: &mut [u16; rules::MOST_NODES],
+    order: &mut [u32; rules::MOST_NODES],
     m: u16,
     start: usize,
 ) -> usize
@@ -113,12 +113,13 @@ fn visit_rest(
 
 // All that the r slots reach along good edges, in a table of m nodes: `num` gets each node's
 // number, `order` the node of each number, and the number after the last is answered. Both are
-// given as zeros.
+// given as zeros. (Their entries differ in width: of two arrays whose places lie a multiple of 4096
+// bytes apart, reading one right after writing the other is slow.)
 pub fn meet(
     left: &[u16],
     right: &[u16],
     num: &mut [u16; rules::MOST_NODES],
-    order: &mut [u16; rules::MOST_NODES],
+    order: &mut [u32; rules::MOST_NODES],
     m: u16,
     r: u16,
 ) -> usize

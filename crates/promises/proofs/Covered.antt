@@ -1,7 +1,7 @@
 -- What a public call leaves is what specs/Calls.antt says of it: by the call's contract.
 -- `Learnt κs a r s` is what a caller learns of a call: κs the lifetimes, a the arguments, r what it
 -- hands back, s the lent slices as it leaves them.
-use mathlib.Core.Path.{_≡_, ap}
+use mathlib.Core.Path.{_≡_, refl, ap}
 use denote.Ref.{now}
 use Rattle.rules.specs.Table.{Outcome}
 use Rattle.rules.specs.Schedules.{Followed}
@@ -14,9 +14,10 @@ use Rattle.editor.proofs.shade.Reads as shade
 use Rattle.take.proofs.take.Reads as take
 use Rattle.collector.proofs.collect.Reads as collect
 use Rattle.calls.proofs.step.Reads as step
+use Rattle.in_use.proofs.in_use.Reads as in-use
 use Rattle.promises.specs.CallRuns.{lent, lend}
 use Rattle.promises.specs.Calls.{Fresh, Load, Look, Link, Shade, Take, Collect, Any}
-use Rattle.promises.specs.Calls.{left-by, rattle}
+use Rattle.promises.specs.Calls.{InUse, left-by, rattle}
 
 -- the slices and the record of an outcome
 pub lent-by : {o p : Outcome} → o ≡ p → lend (λ x. x) (o .state) ≡ lend (λ x. x) (p .state)
@@ -84,3 +85,11 @@ pub step-leaves : (κs : _) (a : _) (r : _) (s : _) → step.Learnt κs a r s
     (lent (now (a .0)) (now (a .1 .0)) (now (a .1 .1 .0)) (a .1 .1 .1 .0))
 unfolding left-by
 step-leaves κs a r s = lent-by
+
+-- In use hands back no record: the one given is kept
+pub in-use-leaves : (κs : _) (a : _) (r : _) (s : _) → in-use.Learnt κs a r s
+    → lent (now (a .0)) (now (a .1 .0)) (now (a .1 .1 .0)) (a .1 .1 .1 .0)
+    ≡ rattle .leaves InUse
+    (lent (now (a .0)) (now (a .1 .0)) (now (a .1 .1 .0)) (a .1 .1 .1 .0))
+unfolding left-by
+in-use-leaves κs a r s e = refl

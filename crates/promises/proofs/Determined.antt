@@ -13,6 +13,7 @@ use Rattle.editor.proofs.shade.Reads as shade
 use Rattle.take.proofs.take.Reads as take
 use Rattle.collector.proofs.collect.Reads as collect
 use Rattle.calls.proofs.step.Reads as step
+use Rattle.in_use.proofs.in_use.Reads as in-use
 
 -- two things that equal one are equal
 pub determined : {A : Type 0} {a b c : A} → a ≡ c → b ≡ c → a ≡ b
@@ -68,3 +69,8 @@ pub step-determined : (κs : _) (a : _) (r r′ : _) (s s′ : _) → step.Learn
     → outcome r (now (s .0)) (now (s .1 .0)) (now (s .1 .1 .0))
     ≡ outcome r′ (now (s′ .0)) (now (s′ .1 .0)) (now (s′ .1 .1 .0))
 step-determined κs a r r′ s s′ = determined
+
+-- In use lends no slice to be changed, and hands back an answer only
+pub in-use-determined : (κs : _) (a : _) (r r′ : _) (s s′ : _) → in-use.Learnt κs a r s
+    → in-use.Learnt κs a r′ s′ → r ≡ r′
+in-use-determined κs a r r′ s s′ = determined

@@ -10,6 +10,7 @@ use Rattle.jenturik_c.specs.declared.Told.{Told}
 use Rattle.jenturik_c.proofs.jenturik_fresh.Reads as c-fresh
 use Rattle.jenturik_c.proofs.jenturik_load.Reads as c-load
 use Rattle.jenturik_c.proofs.jenturik_look.Reads as c-look
+use Rattle.jenturik_c.proofs.jenturik_in_use.Reads as c-in-use
 use Rattle.jenturik_c.proofs.jenturik_link.Reads as c-link
 use Rattle.jenturik_c.proofs.jenturik_shade.Reads as c-shade
 use Rattle.jenturik_c.proofs.jenturik_take.Reads as c-take
@@ -19,7 +20,7 @@ use Rattle.jenturik_c.proofs.jenturik_schedule.Reads as c-schedule
 use Rattle.bench_steps.specs.Steps.{stepped}
 use Rattle.bench_steps.proofs.jenturik_steps.Reads as c-steps
 use Rattle.promises.specs.CallRuns.{lent}
-use Rattle.promises.specs.Words.{Fresh, Load, Look, Link, Shade, Take, Collect}
+use Rattle.promises.specs.Words.{Fresh, Load, Look, InUse, Link, Shade, Take, Collect}
 use Rattle.promises.specs.Words.{CollectMany, Schedule, left-in, left-in-run, left-by, words}
 use Rattle.promises.proofs.Determined.{determined}
 
@@ -39,6 +40,12 @@ pub c-look-determined : (κs : _) (a : _) (r r′ : _) (s s′ : _)
     → c-look.Learnt κs a r s → c-look.Learnt κs a r′ s′
     → _≡_ {A = Told} r r′
 c-look-determined κs a r r′ s s′ p q = ap (λ (f : Faced). f .told) (determined p q)
+
+-- In use writes nothing either
+pub c-in-use-determined : (κs : _) (a : _) (r r′ : _) (s s′ : _)
+    → c-in-use.Learnt κs a r s → c-in-use.Learnt κs a r′ s′
+    → _≡_ {A = Told} r r′
+c-in-use-determined κs a r r′ s s′ p q = ap (λ (f : Faced). f .told) (determined p q)
 
 pub c-link-determined : (κs : _) (a : _) (r r′ : _) (s s′ : _)
     → c-link.Learnt κs a r s → c-link.Learnt κs a r′ s′
@@ -113,6 +120,13 @@ pub c-look-leaves : (κs : _) (a : _) (r : _) (s : _) → c-look.Learnt κs a r 
     (lent (now (a .0)) (now (a .1 .0)) (now (a .1 .1 .0)) (now (a .1 .1 .1 .0)))
 unfolding left-by
 c-look-leaves κs a r s p = ap left-in p
+
+pub c-in-use-leaves : (κs : _) (a : _) (r : _) (s : _) → c-in-use.Learnt κs a r s
+    → lent (now (a .0)) (now (a .1 .0)) (now (a .1 .1 .0)) (now (a .1 .1 .1 .0))
+    ≡ words .leaves InUse
+    (lent (now (a .0)) (now (a .1 .0)) (now (a .1 .1 .0)) (now (a .1 .1 .1 .0)))
+unfolding left-by
+c-in-use-leaves κs a r s p = ap left-in p
 
 pub c-link-leaves : (κs : _) (a : _) (r : _) (s : _) → c-link.Learnt κs a r s
     → lent (now (s .0)) (now (s .1 .0)) (now (a .1 .1 .0)) (now (s .1 .1 .1 .0))

@@ -20,11 +20,14 @@ use Rattle.rules.specs.Records.{position}
 use Rattle.rules.specs.Steps.{step, run, taking, linking, shading, collecting, looking, codeOf}
 use Rattle.rules.specs.Steps.{nodeOf}
 use Rattle.rules.specs.Schedules.{collects}
+use Rattle.rules.specs.Meet.{blank, visit, visitSlots, visitEdges, visitFrom, meet, lowest, anyEdge}
+use Rattle.rules.specs.InUse.{isHurt, firstHurt, countMet, inUse}
 use Rattle.rules.specs.declared.Place.{Place}
 use Rattle.rules.specs.declared.Step.{Step}
 use Rattle.rules.specs.declared.Answer.{Answer}
 use Rattle.rules.specs.declared.Answer.the-variants.{Started, Named, Linked, Taken, Shaded, Looked}
-use Rattle.rules.specs.declared.Answer.the-variants.{Blackened, Whitened, Appended, Refused}
+use Rattle.rules.specs.declared.Answer.the-variants.{Blackened, Whitened, Appended, Counted}
+use Rattle.rules.specs.declared.Answer.the-variants.{Refused}
 
 -- code and node of an answer
 abbrev shown : Answer → List ℕ
@@ -50,9 +53,13 @@ three = starts 3 1 .state
 abbrev pub five : State
 five = starts 5 1 .state
 
--- cycles completed, steps of this one, of the last one, nodes in use
+-- after a cycle without an edit
+abbrev quiet : State
+quiet = run (collects 33) five
+
+-- cycles completed, steps of this one, of the last one, nodes blackened by the last marking
 abbrev counts : State → List ℕ
-counts s = s .rec .cycles ∷ s .rec .steps ∷ s .rec .took ∷ s .rec .inuse ∷ []
+counts s = s .rec .cycles ∷ s .rec .steps ∷ s .rec .took ∷ s .rec .lastblackened ∷ []
 
 -- how many of these edges lead to n
 abbrev edgesTo : ℕ → List ℕ → ℕ
@@ -80,6 +87,7 @@ appended (Looked n) = 0
 appended (Blackened n) = 0
 appended (Whitened n) = 0
 appended (Appended n) = n
+appended (Counted k) = 0
 appended (Refused code n) = 0
 
 -- the position's i
@@ -138,6 +146,12 @@ table =
     (answers (looking (at 12 0) ∷ looking (at 12 4095) ∷ looking (at 13 0) ∷ looking (at 1 2) ∷ [])
     five)
     ((0 ∷ 0 ∷ []) ∷ (0 ∷ 0 ∷ []) ∷ (4 ∷ 0 ∷ []) ∷ (4 ∷ 0 ∷ []) ∷ []) ∷
+    -- [In use 1] where nothing was taken, after the first cycle of [Figures 2]: all five nodes were
+    -- blackened, since FREE and the free nodes are too, and none is in use; after a Take one is
+    figure
+    ((quiet .rec .lastblackened ∷ []) ∷ shown (inUse quiet) ∷ shown
+    (inUse (run (taking (at 0 0) 0 ∷ []) quiet)) ∷ [])
+    ((5 ∷ []) ∷ (0 ∷ 0 ∷ []) ∷ (0 ∷ 1 ∷ []) ∷ []) ∷
     []
 
 -- in each row what is computed is what is told
@@ -151,4 +165,5 @@ unfolding pick every first unless edgeOf withEdge cleared shadeIn badEdge oneMor
     freshLast freshState fresh sidesOk turnsOk placeCode walkFrom arrive sideCode owedCode look
     depart linkTo link pay shadeOwed badFree relink takeNext takeFirst take shadeStep afterRoots
     scanStep edgeStep blackStep append appendWhite appendStep phaseStep collect step run collects
-figures = (refl, (refl, (refl, (refl, (refl, (refl, (refl, (refl, tt))))))))
+    blank visit visitSlots visitEdges visitFrom meet lowest anyEdge isHurt firstHurt countMet inUse
+figures = (refl, (refl, (refl, (refl, (refl, (refl, (refl, (refl, (refl, tt)))))))))

@@ -10,10 +10,12 @@ use Rattle.base.proofs.Tests.{pick-yes}
 use Rattle.rules.specs.Table.{State, mostNodes, mostSlots}
 use Rattle.rules.specs.Records.{position}
 use Rattle.rules.specs.Check.{bound}
+use Rattle.rules.specs.InUse.{inUse}
 use Rattle.rules.specs.Steps.{run, taking, linking, shading, collecting, looking}
 use Rattle.rules.specs.Schedules.{Followed, schedule, collects}
 use Rattle.rules.specs.Facts.{InRange, Owable}
 use Rattle.rules.specs.declared.Step.{Step}
+use Rattle.rules.specs.declared.Answer.{Answer}
 use Rattle.rules.specs.declared.Phase.{Phase}
 use Rattle.rules.specs.declared.Phase.the-variants.{Roots, Scan, Left, Right, Black, Append}
 use Rattle.rules.specs.declared.Owed.{Owed}
@@ -23,7 +25,7 @@ use Rattle.rules.proofs.Sizes.{square}
 use Rattle.record_words.specs.Words.{kOf, owedOf, wordsOf, isRecord}
 use Rattle.record_words.proofs.RoundTrip.{record-back}
 use Rattle.record_words.proofs.Widths.{words-are, tag-most, owes-most}
-use Rattle.jenturik_c.specs.Face.{face}
+use Rattle.jenturik_c.specs.Face.{face, asking}
 use Rattle.jenturik_c.specs.Flat.{stepsOf, scheduleOf}
 use Rattle.jenturik_c.proofs.Kept.{Follows, schedule-follows, words-follow, done-kept}
 use Rattle.runs.specs.Runs.{Count}
@@ -32,8 +34,8 @@ use Rattle.runs.proofs.Sound.{checked}
 use Rattle.runs.proofs.Counting.{Carried}
 use Rattle.promises.specs.CallRuns.{Lent, lend, stateOf, Demand-calls}
 use Rattle.promises.specs.Words.{left-in, left-in-run, once, many, left-by, deedOf, words}
-use Rattle.promises.specs.Words.{Call, Fresh, Load, Look, Link, Shade, Take, Collect}
-use Rattle.promises.specs.Words.{CollectMany, Schedule}
+use Rattle.promises.specs.Words.{Call, Fresh, Load, Look, InUse, Link, Shade, Take}
+use Rattle.promises.specs.Words.{Collect, CollectMany, Schedule}
 use Rattle.promises.proofs.CallRuns as R
 
 -- numbers inside a table have their widths
@@ -69,7 +71,8 @@ fits {m} {r} {n} {s} v c =
     let t = took-fits (x .m) (x .r) (g .m-high) (g .r-high) in
     let q : x .cycles ≡ n .cycles = ap (λ (n : Count). n .cycles) (v .counts) in
     words-are x (wordsOf x) refl
-    (omega (arith, p .0, p .1, o, u .in-use, u .took, tag-most (x .phase), owes-most (x .owed)))
+    (omega
+    (arith, p .0, p .1, o, u .last-blackened, u .took, tag-most (x .phase), owes-most (x .owed)))
     .1
 
 module _ (h : Lent (List ℕ)) (u : Fit (h .kept)) where
@@ -79,6 +82,13 @@ module _ (h : Lent (List ℕ)) (u : Fit (h .kept)) where
   once-run : (a : Step) → once a h ≡ lend wordsOf (run (a ∷ []) s)
   unfolding face run
   once-run a = ap left-in (sym (pick-yes _ _ _ _ u refl))
+
+  -- a call that only answers is no step
+  asked-run : (f : State → Answer)
+      → left-in (face (asking f) (h .left) (h .right) (h .colour) (h .kept))
+      ≡ lend wordsOf (run [] s)
+  unfolding face run
+  asked-run f = ap left-in (sym (pick-yes _ _ _ _ u refl))
 
   many-run : (f : State → Followed) (cs : List Step) → Follows f cs
       → many f h ≡ lend wordsOf (run (take (f s .done) cs) s)
@@ -90,6 +100,7 @@ unfolding left-by deedOf
 goes (Fresh m r) h = λ z. (_, by-fresh _ _ refl refl z, refl)
 goes (Load m r lefts rights) h = λ z. (_, by-load _ _ _ refl refl z, refl)
 goes (Look p) h = λ u. once-run h u (looking p)
+goes InUse h = λ u. asked-run h u inUse
 goes (Link p side q) h = λ u. once-run h u (linking p side q)
 goes Shade h = λ u. once-run h u shading
 goes (Take p side) h = λ u. once-run h u (taking p side)

@@ -12,7 +12,8 @@ use Rattle.base.specs.Choice.{pick, every, first}
 use Rattle.rules.specs.Table.{State, sides, Outcome, state, did, refuse, unless, black, left, right}
 use Rattle.rules.specs.Table.{edgeOf, edge, withEdge, cleared, colourOf, withColour, shadeIn, shade}
 use Rattle.rules.specs.Table.{badEdge}
-use Rattle.rules.specs.Records.{freshRecord, withPhase, withOwed, withLast, withSteps, withInuse}
+use Rattle.rules.specs.Records.{freshRecord, withPhase, withOwed, withLast, withSteps}
+use Rattle.rules.specs.Records.{withLastBlackened}
 use Rattle.rules.specs.Records.{owing, moved, marked, rescan, oneMore, afterAppend}
 use Rattle.rules.specs.Check.{sizeOk, phaseOk, owedOk, lastOk, bound, cycleOk, toldOk, countsOk}
 use Rattle.rules.specs.Check.{recordOk, checkOf, check}
@@ -34,7 +35,8 @@ use Rattle.rules.specs.declared.Phase.{Phase}
 use Rattle.rules.specs.declared.Phase.the-variants.{Roots, Scan, Left, Right, Black, Append}
 use Rattle.rules.specs.declared.Answer.{Answer}
 use Rattle.rules.specs.declared.Answer.the-variants.{Started, Named, Linked, Taken, Shaded, Looked}
-use Rattle.rules.specs.declared.Answer.the-variants.{Blackened, Whitened, Appended, Refused}
+use Rattle.rules.specs.declared.Answer.the-variants.{Blackened, Whitened, Appended, Counted}
+use Rattle.rules.specs.declared.Answer.the-variants.{Refused}
 use Rattle.promises.proofs.Figures.{at, three, five}
 
 -- ---- wrong steps; `kind k f` is honest but for the kind k
@@ -61,12 +63,12 @@ honestOnce = kind 3 (λ a s. pick (eqb (s .rec .cycles) 0) (step a s) (writesNot
 abbrev inRecord : (Record → Record) → Outcome → Outcome
 inRecord f o = did (o .answer) (o .state) (f (o .state .rec))
 
--- [Mistakes 10] invented steps, and invented in use
+-- [Mistakes 10] invented steps, and invented blackened last cycle
 abbrev inventsSteps : Step → State → Outcome
 inventsSteps = kind 3 (λ a s. inRecord (λ x. withSteps x (x .steps + 1)) (step a s))
 
-abbrev inventsInUse : Step → State → Outcome
-inventsInUse = kind 3 (λ a s. inRecord (λ x. withInuse x (x .m)) (step a s))
+abbrev inventsLastBlackened : Step → State → Outcome
+inventsLastBlackened = kind 3 (λ a s. inRecord (λ x. withLastBlackened x (x .m)) (step a s))
 
 -- [Mistakes 1] Link shades, and leaves the edge for later
 abbrev shadesFirst : Step → State → Outcome
@@ -210,6 +212,7 @@ deed (Blackened n) = 6
 deed (Whitened n) = 7
 deed (Appended n) = 8
 deed (Refused c n) = 9
+deed (Counted k) = 10
 
 abbrev colour : ℕ → Outcome → ℕ
 colour n o = colourOf (o .state) n
@@ -243,7 +246,7 @@ table =
     row writesNothing collecting three (colour 0) 0 1 ∷
     row honestOnce collecting (run (collects 21) three) (colour 0) 0 1 ∷
     row inventsSteps collecting three (λ o. o .state .rec .steps) 2 1 ∷
-    row inventsInUse collecting three (λ o. o .state .rec .inuse) 3 0 ∷
+    row inventsLastBlackened collecting three (λ o. o .state .rec .lastblackened) 3 0 ∷
     row shadesFirst (linking (at 0 0) 0 (at 1 1)) two (λ o. edge (o .state) left 2) 3 4 ∷
     row passesOnce collecting (run (collects 6) three) (λ o. looks (o .state .rec .phase)) 2 3 ∷
     row blackensTarget (linking (at 0 0) 0 (at 1 1)) two (colour 4) 2 1 ∷

@@ -33,8 +33,10 @@ pub data Call : Type 0 where
   Schedule : List Step → Call
   -- batch::collect_many
   CollectMany : ℕ → Call
+  -- in_use::in_use
+  InUse : Call
 
--- the state that a call leaves
+-- the state that a call leaves; [In use 3] In use leaves it as it is
 unfoldable pub left-by : Call → State → State
 left-by (Fresh m r) s = fresh m r (s .edges) (s .colour) .state
 left-by (Load m r lefts rights) s =
@@ -48,6 +50,7 @@ left-by (Any a) s = step a s .state
 left-by CollectInPlace s = step collecting s .state
 left-by (Schedule cs) s = schedule cs s .state
 left-by (CollectMany n) s = schedule (collects n) s .state
+left-by InUse s = s
 
 -- the steps that a call makes: of many, as many as were done; a refused one is done by itself only
 unfoldable pub deedOf : Call → State → Deed
@@ -63,6 +66,7 @@ deedOf (Any a) s = makes (a ∷ [])
 deedOf CollectInPlace s = makes (collecting ∷ [])
 deedOf (Schedule cs) s = makes (take (schedule cs s .done) cs)
 deedOf (CollectMany n) s = makes (take (schedule (collects n) s .done) (collects n))
+deedOf InUse s = makes []
 
 abbrev pub rattle : Face Call Record
 rattle = record {

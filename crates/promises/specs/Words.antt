@@ -5,12 +5,13 @@ use lib.ListN.{getD, take}
 use Rattle.rules.specs.Table.{State}
 use Rattle.rules.specs.Fresh.{fresh}
 use Rattle.rules.specs.Load.{load}
+use Rattle.rules.specs.InUse.{inUse}
 use Rattle.rules.specs.Steps.{step, taking, linking, shading, collecting, looking, codeOf}
 use Rattle.rules.specs.Schedules.{Followed, schedule, collects}
 use Rattle.rules.specs.declared.Place.{Place}
 use Rattle.rules.specs.declared.Step.{Step}
 use Rattle.record_words.specs.Words.{recordOf}
-use Rattle.jenturik_c.specs.Face.{Faced, face, shown}
+use Rattle.jenturik_c.specs.Face.{Faced, face, shown, asking}
 use Rattle.jenturik_c.specs.Flat.{stepsOf, scheduleOf}
 use Rattle.jenturik_c.specs.Many.{FacedRun, faceRun}
 use Rattle.promises.specs.CallRuns.{Lent, lent, Deed, starts, makes, Face}
@@ -21,6 +22,7 @@ pub data Call : Type 0 where
   Fresh : ℕ → ℕ → Call
   Load : ℕ → ℕ → List ℕ → List ℕ → Call
   Look : Place → Call
+  InUse : Call
   Link : Place → ℕ → Place → Call
   Shade : Call
   Take : Place → ℕ → Call
@@ -47,6 +49,7 @@ left-by (Fresh m r) h = left-in (shown (fresh m r (h .left ∷ h .right ∷ []) 
 left-by (Load m r lefts rights) h =
     left-in (shown (load m r (lefts ∷ rights ∷ []) (h .left ∷ h .right ∷ []) (h .colour)))
 left-by (Look p) h = once (looking p) h
+left-by InUse h = left-in (face (asking inUse) (h .left) (h .right) (h .colour) (h .kept))
 left-by (Link p side q) h = once (linking p side q) h
 left-by Shade h = once shading h
 left-by (Take p side) h = once (taking p side) h
@@ -61,6 +64,7 @@ deedOf (Fresh m r) s = starts m r (codeOf (fresh m r (s .edges) (s .colour) .ans
 deedOf (Load m r lefts rights) s =
     starts m r (codeOf (load m r (lefts ∷ rights ∷ []) (s .edges) (s .colour) .answer))
 deedOf (Look p) s = makes (looking p ∷ [])
+deedOf InUse s = makes []
 deedOf (Link p side q) s = makes (linking p side q ∷ [])
 deedOf Shade s = makes (shading ∷ [])
 deedOf (Take p side) s = makes (taking p side ∷ [])

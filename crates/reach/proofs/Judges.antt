@@ -34,7 +34,7 @@ use Rattle.reach.proofs.Given.{Sizes, sizes, every-two, bad-yes, bad-no
 use Rattle.reach.proofs.Chains.{Ends, Found, found, breaks-once, ends-whole, free-ends}
 use Rattle.reach.proofs.Walks.{Agrees, Says, ends, breaks, walks}
 
-lowest-once : (P : ℕ → Type 0) (n k : ℕ) → Lowest P n → Lowest P k → n ≡ k
+pub lowest-once : (P : ℕ → Type 0) (n k : ℕ) → Lowest P n → Lowest P k → n ≡ k
 lowest-once P n k a b = go (decLt n k) (decLt k n)
   where
     go : Dec (n < k) → Dec (k < n) → n ≡ k
@@ -43,7 +43,7 @@ lowest-once P n k a b = go (decLt n k) (decLt k n)
     go (no h) (no g) = omega arith
 
 -- where edges are good, good edges are the edges
-at-good : (m e : ℕ) → e < m → e ≢ FREE → good m e ≡ e
+pub at-good : (m e : ℕ) → e < m → e ≢ FREE → good m e ≡ e
 unfolding good badEdge
 at-good m e h k =
     split (λ (x : ℕ). x ≡ e) _ _ _ (λ q. sym

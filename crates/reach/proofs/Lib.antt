@@ -6,3 +6,4 @@ pub mod Chains
 pub mod Walks
 pub mod Given
 pub mod Judges
+pub mod InUse

@@ -65,6 +65,11 @@ pub record Accepted (m r : ℕ) (es : List (List ℕ)) (last : ℕ) : Type 0 whe
   pub away : (n : ℕ) → Mem n free → ¬ SlotReaches r es n
   pub end : last ≡ lastOf FREE free
 
+-- of a call: it answers a exactly when what must hold for that answer does
+pub record Exactly (answer : Answer) (Means : Answer → Type 0) (a : Answer) : Type 0 where
+  pub only : answer ≡ a → Means a
+  pub always : Means a → answer ≡ a
+
 -- [Load 7] the answers, each with what must hold for it
 module _ (m r : ℕ) (given edges : List (List ℕ)) (colours : List ℕ) where
   -- [Load 6] the sizes are good
@@ -80,15 +85,10 @@ module _ (m r : ℕ) (given edges : List (List ℕ)) (colours : List ℕ) where
         → Lowest (λ n. Mem n fs × SlotReaches r given n) n → Judged (Refused 13 n)
     accepted : {last : ℕ} → Sized → Accepted m r given last → Judged (Started last)
 
-  -- Load answers a exactly when what must hold for it does
-  pub record Exactly (a : Answer) : Type 0 where
-    pub only : load m r given edges colours .answer ≡ a → Judged a
-    pub always : Judged a → load m r given edges colours .answer ≡ a
-
 abbrev pub Load-judges : Type 0
 Load-judges =
     (m r : ℕ) (given edges : List (List ℕ)) (colours : List ℕ) (a : Answer)
-    → Exactly m r given edges colours a
+    → Exactly (load m r given edges colours .answer) (Judged m r given edges colours) a
 
 -- [Load 1] [Load 2] [Load 3] the table that Load makes; [Load 11] where it is refused, none
 pub record Leaves (m r : ℕ) (given edges : List (List ℕ)) (colours : List ℕ) : Type 0 where

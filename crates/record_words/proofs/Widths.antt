@@ -18,7 +18,7 @@ use Rattle.rules.specs.declared.Owed.the-variants.{Nothing, Node}
 use Rattle.record_words.specs.Words.{word, tagOf, kOf, owesOf, owedOf, wordsOf, most, within}
 use Rattle.record_words.specs.Words.{flagged, isRecord, Within, WORDS, NODES, SLOTS, PHASE, I}
 use Rattle.record_words.specs.Words.{K, OWES, OWED, LAST, STEPS, CYCLES, TOOK, BLACKENED}
-use Rattle.record_words.specs.Words.{IN_USE}
+use Rattle.record_words.specs.Words.{LASTBLACKENED}
 
 none-within : (w : List ℕ) → true ≡ within w 0
 unfolding within
@@ -83,7 +83,7 @@ abbrev Tested : List ℕ → Type 0
 Tested w =
     (word w PHASE ≤ 5) × (word w OWES ≤ 1)
     × AtMost 65535 (word w I) (word w K) (word w OWED) (word w LAST)
-    × AtMost 65535 (word w NODES) (word w SLOTS) (word w BLACKENED) (word w IN_USE)
+    × AtMost 65535 (word w NODES) (word w SLOTS) (word w BLACKENED) (word w LASTBLACKENED)
     × AtMost 4294967295 (word w STEPS) (word w CYCLES) (word w TOOK) 0
     × AtMost 0 (word w 13) (word w 14) (word w 15) (word w 16)
     × AtMost 0 (word w 17) (word w 18) (word w 19) (word w 20)

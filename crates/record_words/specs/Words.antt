@@ -55,8 +55,8 @@ TOOK = 10
 abbrev pub BLACKENED : ℕ
 BLACKENED = 11
 
-abbrev pub IN_USE : ℕ
-IN_USE = 12
+abbrev pub LASTBLACKENED : ℕ
+LASTBLACKENED = 12
 
 -- those from here on have no use
 abbrev pub USED : ℕ
@@ -96,7 +96,7 @@ unused = replicate (WORDS - USED) 0
 abbrev pub laidOut : Record → ℕ → ℕ → ℕ → ℕ → ℕ → List ℕ
 laidOut x tag i k owes n =
     x .m ∷ x .r ∷ tag ∷ i ∷ k ∷ owes ∷ n ∷ x .last ∷ x .steps ∷ x .cycles ∷ x .took ∷ x .blackened ∷
-    x .inuse ∷ unused
+    x .lastblackened ∷ unused
 
 abbrev pub wordsOf : Record → List ℕ
 wordsOf x =
@@ -127,7 +127,7 @@ pickedUp w phase owed =
       cycles = word w CYCLES;
       took = word w TOOK;
       blackened = word w BLACKENED;
-      inuse = word w IN_USE;
+      lastblackened = word w LASTBLACKENED;
     }
 
 unfoldable pub recordOf : List ℕ → Record

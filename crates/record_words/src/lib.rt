@@ -39,7 +39,7 @@ const TOOK: usize = 10;
 
 const BLACKENED: usize = 11;
 
-const IN_USE: usize = 12;
+const LASTBLACKENED: usize = 12;
 
 fn tag(p: Phase) -> u32
     ensures { λ n. ⌜ n ≡ tagOf p ⌝ }
@@ -92,7 +92,7 @@ fn laid_out(x: Record, tag: u32, i: u16, k: u16, owes: u32, n: u16) -> [u32; WOR
     let r = x.r;
     let last = x.last;
     let blackened = x.blackened;
-    let inuse = x.inuse;
+    let lastblackened = x.lastblackened;
     [
         m as u32,
         r as u32,
@@ -106,7 +106,7 @@ fn laid_out(x: Record, tag: u32, i: u16, k: u16, owes: u32, n: u16) -> [u32; WOR
         x.cycles,
         x.took,
         blackened as u32,
-        inuse as u32,
+        lastblackened as u32,
         0,
         0,
         0,
@@ -162,7 +162,7 @@ fn within(w: [u32; WORDS]) -> bool
     if !at_most(65535, w[I], w[K], w[OWED], w[LAST]) {
         return false;
     }
-    if !at_most(65535, w[NODES], w[SLOTS], w[BLACKENED], w[IN_USE]) {
+    if !at_most(65535, w[NODES], w[SLOTS], w[BLACKENED], w[LASTBLACKENED]) {
         return false;
     }
     if !at_most(4294967295, w[STEPS], w[CYCLES], w[TOOK], 0) {
@@ -246,7 +246,7 @@ fn picked_up(w: [u32; WORDS], phase: Phase, owed: Owed) -> Record
         cycles: w[CYCLES],
         took: w[TOOK],
         blackened: w[BLACKENED] as u16,
-        inuse: w[IN_USE] as u16,
+        lastblackened: w[LASTBLACKENED] as u16,
     }
 }
 

@@ -47,7 +47,7 @@ cycleOk x b = every (leb (x .blackened) (x .m) ∷ ltb (x .steps) b ∷ [])
 
 -- [Codes 2] what earlier cycles told
 unfoldable pub toldOk : Record → ℕ → Bool
-toldOk x b = every (leb (x .inuse) (x .m) ∷ leb (x .took) b ∷ [])
+toldOk x b = every (leb (x .lastblackened) (x .m) ∷ leb (x .took) b ∷ [])
 
 unfoldable pub countsOk : Record → ℕ → Bool
 countsOk x b = every (cycleOk x b ∷ toldOk x b ∷ [])

@@ -29,7 +29,7 @@ Owable m (Node n) = n < m
 
 -- what earlier cycles told, b being B
 pub record Tells (x : Record) (b : ℕ) : Type 0 where
-  pub in-use : x .inuse ≤ x .m
+  pub last-blackened : x .lastblackened ≤ x .m
   pub took : x .took ≤ b
 
 pub record Checked (ll rl cl : ℕ) (x : Record) : Type 0 where

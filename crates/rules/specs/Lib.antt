@@ -9,5 +9,6 @@ pub mod Steps
 pub mod Schedules
 pub mod Meet
 pub mod Load
+pub mod InUse
 pub mod Facts
 pub mod Lent

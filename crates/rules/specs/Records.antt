@@ -31,13 +31,13 @@ freshRecord m r last =
       cycles = 0;
       took = 0;
       blackened = 0;
-      inuse = 0;
+      lastblackened = 0;
     }
 
 -- x with these in place of its own; all that follows is made by it. M and R stay as Fresh made
 -- them.
 abbrev pub remade : Record → Phase → Owed → ℕ → ℕ → ℕ → ℕ → ℕ → ℕ → Record
-remade x phase owed last steps cycles took blackened inuse =
+remade x phase owed last steps cycles took blackened lastblackened =
     record {
       m = x .m;
       r = x .r;
@@ -48,18 +48,18 @@ remade x phase owed last steps cycles took blackened inuse =
       cycles = cycles;
       took = took;
       blackened = blackened;
-      inuse = inuse;
+      lastblackened = lastblackened;
     }
 
 -- where the record stands: the counts stay
 abbrev placed : Record → Phase → Owed → ℕ → Record
 placed x phase owed last =
-    remade x phase owed last (x .steps) (x .cycles) (x .took) (x .blackened) (x .inuse)
+    remade x phase owed last (x .steps) (x .cycles) (x .took) (x .blackened) (x .lastblackened)
 
 -- the counts
 abbrev counted : Record → ℕ → ℕ → ℕ → ℕ → ℕ → Record
-counted x steps cycles took blackened inuse =
-    remade x (x .phase) (x .owed) (x .last) steps cycles took blackened inuse
+counted x steps cycles took blackened lastblackened =
+    remade x (x .phase) (x .owed) (x .last) steps cycles took blackened lastblackened
 
 -- one field
 abbrev pub withPhase : Record → Phase → Record
@@ -72,19 +72,19 @@ abbrev pub withLast : Record → ℕ → Record
 withLast x n = placed x (x .phase) (x .owed) n
 
 abbrev pub withSteps : Record → ℕ → Record
-withSteps x n = counted x n (x .cycles) (x .took) (x .blackened) (x .inuse)
+withSteps x n = counted x n (x .cycles) (x .took) (x .blackened) (x .lastblackened)
 
 abbrev pub withCycles : Record → ℕ → Record
-withCycles x n = counted x (x .steps) n (x .took) (x .blackened) (x .inuse)
+withCycles x n = counted x (x .steps) n (x .took) (x .blackened) (x .lastblackened)
 
 abbrev pub withTook : Record → ℕ → Record
-withTook x n = counted x (x .steps) (x .cycles) n (x .blackened) (x .inuse)
+withTook x n = counted x (x .steps) (x .cycles) n (x .blackened) (x .lastblackened)
 
 abbrev pub withBlackened : Record → ℕ → Record
-withBlackened x n = counted x (x .steps) (x .cycles) (x .took) n (x .inuse)
+withBlackened x n = counted x (x .steps) (x .cycles) (x .took) n (x .lastblackened)
 
-abbrev pub withInuse : Record → ℕ → Record
-withInuse x n = counted x (x .steps) (x .cycles) (x .took) (x .blackened) n
+abbrev pub withLastBlackened : Record → ℕ → Record
+withLastBlackened x n = counted x (x .steps) (x .cycles) (x .took) (x .blackened) n
 
 -- [Link 2] node n's shade is owed [Record 4]
 abbrev pub owing : Record → ℕ → Record
@@ -98,9 +98,10 @@ paid x = withOwed x Nothing
 abbrev pub moved : Record → Phase → Record
 moved x p = withSteps (withPhase x p) (x .steps + 1)
 
--- [Scan 4] the marking is complete, and in use is what blackened is [Record 10]
+-- [Scan 4] the marking is complete, and blackened last cycle is what blackened is
+-- [Record 10]
 abbrev pub marked : Record → Record
-marked x = withInuse (moved x (Append 0)) (x .blackened)
+marked x = withLastBlackened (moved x (Append 0)) (x .blackened)
 
 -- [Collector 3] the node after i
 abbrev pub next : Record → ℕ → ℕ

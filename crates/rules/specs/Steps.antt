@@ -12,7 +12,7 @@ use Rattle.rules.specs.declared.Step.{Step}
 use Rattle.rules.specs.declared.Answer.{Answer}
 use Rattle.rules.specs.declared.Answer.the-variants.{Started, Named, Linked, Taken, Shaded}
 use Rattle.rules.specs.declared.Answer.the-variants.{Looked, Blackened, Whitened, Appended}
-use Rattle.rules.specs.declared.Answer.the-variants.{Refused}
+use Rattle.rules.specs.declared.Answer.the-variants.{Counted, Refused}
 
 -- [Steps 1] the source place, and the target's
 abbrev pub source : Step → Place
@@ -83,9 +83,10 @@ codeOf (Looked n) = 0
 codeOf (Blackened n) = 0
 codeOf (Whitened n) = 0
 codeOf (Appended n) = 0
+codeOf (Counted k) = 0
 codeOf (Refused code n) = code
 
--- [Answers 2] and the node
+-- [Answers 2] and the node, or the number of nodes counted
 abbrev pub nodeOf : Answer → ℕ
 nodeOf (Started n) = n
 nodeOf (Named n) = n
@@ -96,4 +97,5 @@ nodeOf (Looked n) = n
 nodeOf (Blackened n) = n
 nodeOf (Whitened n) = n
 nodeOf (Appended n) = n
+nodeOf (Counted k) = k
 nodeOf (Refused code n) = n

@@ -51,10 +51,11 @@ pub struct Record {
     pub cycles: u32,
     pub took: u32,
     pub blackened: u16,
-    pub inuse: u16,
+    pub lastblackened: u16,
 }
 
-// What a call did and to which node, or the code that refuses it, with a node.
+// What a call did and to which node, or how many nodes it counted, or the code that refuses it,
+// with a node.
 pub enum Answer {
     Started(u16),
     Named(u16),
@@ -65,6 +66,7 @@ pub enum Answer {
     Blackened(u16),
     Whitened(u16),
     Appended(u16),
+    Counted(u16),
     Refused(u8, u16),
 }
 
@@ -210,7 +212,7 @@ pub fn cycle_ok(x: Record, b: u32) -> bool
 fn told_ok(x: Record, b: u32) -> bool
     ensures { λ ok. ⌜ ok ≡ toldOk x b ⌝ }
 {
-    if x.m < x.inuse {
+    if x.m < x.lastblackened {
         return false;
     }
     x.took <= b
@@ -305,7 +307,7 @@ impl Record {
             cycles: 0,
             took: 0,
             blackened: 0,
-            inuse: 0,
+            lastblackened: 0,
         }
     }
 
@@ -323,7 +325,7 @@ impl Record {
             cycles: self.cycles,
             took: self.took,
             blackened: self.blackened,
-            inuse: self.inuse,
+            lastblackened: self.lastblackened,
         }
     }
 
@@ -372,12 +374,12 @@ impl Record {
         self.with_phase(phase)
     }
 
-    // The step that ends the marking: nodes in use is set.
+    // The step that ends the marking: what it blackened is kept.
     pub fn marked(mut self) -> Record
         requires { ⌜ self .steps < manySteps ⌝ }
         ensures { λ r. ⌜ r ≡ marked self ⌝ }
     {
-        self.inuse = self.blackened;
+        self.lastblackened = self.blackened;
         self.moved(Phase::Append(0))
     }
 
@@ -441,11 +443,12 @@ impl Answer {
             Answer::Blackened(_) => 0,
             Answer::Whitened(_) => 0,
             Answer::Appended(_) => 0,
+            Answer::Counted(_) => 0,
             Answer::Refused(code, _) => code,
         }
     }
 
-    // The node answered.
+    // The node answered; of Counted, the number of nodes.
     pub fn node(self) -> u16
         ensures { λ n. ⌜ n ≡ nodeOf self ⌝ }
     {
@@ -459,6 +462,7 @@ impl Answer {
             | Answer::Blackened(n)
             | Answer::Whitened(n)
             | Answer::Appended(n)
+            | Answer::Counted(n)
             | Answer::Refused(_, n) => n,
         }
     }

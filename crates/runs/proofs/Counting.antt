@@ -10,7 +10,8 @@ use Rattle.rules.specs.Steps.{step, run}
 use Rattle.rules.specs.declared.Step.{Step}
 use Rattle.rules.specs.declared.Answer.{Answer}
 use Rattle.rules.specs.declared.Answer.the-variants.{Started, Named, Linked, Taken, Shaded, Looked}
-use Rattle.rules.specs.declared.Answer.the-variants.{Blackened, Whitened, Appended, Refused}
+use Rattle.rules.specs.declared.Answer.the-variants.{Blackened, Whitened, Appended, Counted}
+use Rattle.rules.specs.declared.Answer.the-variants.{Refused}
 use Rattle.theory.specs.Reach.{Garbage}
 use Rattle.theory.proofs.Steps.{appends, other, Tick, CStep, EStep}
 use Rattle.theory.proofs.Invariant.{Sizes, Inv}
@@ -48,6 +49,7 @@ is-appended x (Looked n) q = absurd (other≢appends q)
 is-appended x (Blackened n) q = absurd (other≢appends q)
 is-appended x (Whitened n) q = absurd (other≢appends q)
 is-appended x (Appended n) q = let z : n ≡ x = cc in ap Appended z
+is-appended x (Counted k) q = absurd (other≢appends q)
 is-appended x (Refused code n) q = absurd (other≢appends q)
 
 some-appended : {x : ℕ} {cs : List Step} {s : State}

@@ -1,16 +1,19 @@
 -- Demand 3: each of its claims, of a sound state, and all of them of every run from a start.
-use Prim.Native.Nat.{ℕ, suc, _<_}
+use Prim.Native.Nat.{ℕ, suc, _≤_, _<_}
 use mathlib.Core.Bool.{true, false, true≢false}
 use mathlib.Core.Path.{_≡_, refl, sym, ap, _∙_, subst}
 use mathlib.Core.Logic.{_≢_, _⊎_, inl, inr}
 use mathlib.Core.Option.{none, some}
 use native.Mathlib.Omega.{arith}
 use Rattle.rules.specs.Table.{State, FREE, left, edge, colourOf}
-use Rattle.rules.specs.Check.{bound}
+use Rattle.rules.specs.Check.{bound, check}
+use Rattle.rules.specs.InUse.{inUse}
 use Rattle.rules.specs.Steps.{step, codeOf}
 use Rattle.rules.specs.declared.Step.{Step}
-use Rattle.rules.specs.declared.Answer.the-variants.{Appended}
+use Rattle.rules.specs.declared.Answer.{Answer}
+use Rattle.rules.specs.declared.Answer.the-variants.{Appended, Counted}
 use Rattle.theory.specs.Reach.{Reach, Root, Slot, Garbage}
+use Rattle.theory.specs.Free.{Mem}
 use Rattle.theory.proofs.Steps as S
 use S.{Tick}
 use Rattle.theory.proofs.Safe as A
@@ -18,12 +21,17 @@ use A.{untouched, Edits, of-slot, of-free, of-first, edit-where}
 use Rattle.theory.proofs.Facts as F
 use Rattle.theory.proofs.Marking.{none≢some}
 use Rattle.theory.proofs.Invariant.{Inv, Free, at-roots}
+use Rattle.reach.specs.Counted.{Number, HurtNode, Counts, bad-size, bad-record, damaged, counted}
+use Rattle.reach.specs.Counted.{Reached}
+use Rattle.reach.proofs.Counts.{number-on}
+use Rattle.reach.proofs.InUse.{in-use-counted, in-use-reached}
 use Rattle.runs.specs.Runs.{after, collector, Count, begun}
-use Rattle.runs.specs.Demand.{RootReaches, SlotReaches, Allowed, FreeNodes, Demand, Demand-3}
+use Rattle.runs.specs.Demand.{RootReaches, SlotReaches, Used, Allowed, FreeNodes, Demand}
+use Rattle.runs.specs.Demand.{Demand-3}
 use Rattle.runs.proofs.Codes.{allowed}
 use Rattle.runs.proofs.Tables.{Rows, reach-from}
 use Rattle.runs.proofs.Phases.{view, is-append}
-use Rattle.runs.proofs.Sound.{owes, stateIn, top, Sound, sizes, Ready, ready}
+use Rattle.runs.proofs.Sound.{owes, stateIn, top, Sound, sizes, checked, Ready, ready}
 use Rattle.runs.proofs.Simulates.{named}
 use Rattle.runs.proofs.Edited.{made-there, walked, walked-at}
 use Rattle.runs.proofs.AnyStep.{Collected, Stepped, goes-on, closes, edits, stepped}
@@ -125,6 +133,33 @@ module _ {E : ℕ} {s : State} (g : Sound E s) where
       go (closes e y k) = absurd (true≢false (sym (k .kind) ∙ h))
       go (edits e q k) = at (edit-where (made-there k) (g .inv) side x)
 
+  -- no edge is bad
+  none-hurt : (x : ℕ) → ¬ HurtNode s x
+  none-hurt x h = go (h .3 .2)
+    where
+      go : (s .rec .m ≤ edge s (h .3 .0) x) ⊎ (edge s (h .3 .0) x ≡ FREE) → ⊥
+      go (inl q) = omega (arith, g .inv .shape .bound (h .3 .0) x)
+      go (inr q) = g .inv .shape .not-free (h .3 .0) x q
+
+  counts-used : (k : ℕ) × (inUse s ≡ Counted k) × Number (Used s) (s .rec .m) k
+  counts-used = go (in-use-counted s)
+    where
+      good : check s ≡ 0
+      good = sym (checked g)
+
+      at : (x : ℕ) → Reached (s .rec .r) (s .edges) x
+      at = in-use-reached (s .rec .r) (s .edges) (g .inv .shape .nil)
+
+      go : {a : Answer} → Counts s a → (k : ℕ) × (a ≡ Counted k) × Number (Used s) (s .rec .m) k
+      go (bad-size q) = absurd (omega (arith, good))
+      go (bad-record q) = absurd (omega (arith, good))
+      go (damaged {n = n} q l) = absurd (none-hurt n (l .0))
+      go (counted q h v) = (
+        _,
+        refl,
+        number-on (λ x u. (u .0, at x .reached u)) (λ x u. at x .in-use (u .0) (u .1)) v,
+      )
+
 -- the free list, whatever the collector
 module _ {E : ℕ} {s : State} {ph : S.Phase} (g : Ready E s ph) where
   pub free-nodes : FreeNodes s
@@ -166,7 +201,7 @@ demand {E} {m} {r} {n} {s} v = record {
   took = omega (arith, ap (λ (n : Count). n .took) (v .counts));
   cycles = omega (arith, ap (λ (n : Count). n .cycles) (v .counts));
   blackened = omega (arith, ap (λ (n : Count). n .blackened) (v .counts));
-  inuse = omega (arith, ap (λ (n : Count). n .marked) (v .counts));
+  lastblackened = omega (arith, ap (λ (n : Count). n .marked) (v .counts));
   appended = λ x hx a cs l.
       let u =
       subst (λ r. Garbage E (suc (suc r)) (edge s) x) (v .slots)
@@ -185,10 +220,16 @@ demand {E} {m} {r} {n} {s} v = record {
       no-black-to-white s _ (v .sound .inv)
       (λ i q. h i (is-append (view (v .sound .fits .few) (s .rec .phase)) q)) (ap owes o) side x
       (omega (arith, l, v .sound .rows .count)) b;
+  in-use = counts-used (v .sound);
 }
   where
     same-bound : bound E (s .rec .m) (s .rec .r) ≡ bound E m r
     same-bound = rw (v .nodes, v .slots) refl
+
+-- [In use 4] no free node is used
+pub free-not-used : {E m r : ℕ} {n : Count} {s : State} → (d : Demand E m r n s) → (x : ℕ)
+    → Mem x (d .free .list) → ¬ Used s x
+free-not-used d x i u = d .free .away x i (u .1)
 
 pub demand-3 : Demand-3
 demand-3 e m r s k cs = demand (carried-run cs s begun (starts k))

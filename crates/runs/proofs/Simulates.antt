@@ -12,7 +12,8 @@ use Rattle.rules.specs.declared.Record.{Record}
 use Rattle.rules.specs.declared.Phase.{Phase}
 use Rattle.rules.specs.declared.Answer.{Answer}
 use Rattle.rules.specs.declared.Answer.the-variants.{Started, Named, Linked, Taken, Shaded, Looked}
-use Rattle.rules.specs.declared.Answer.the-variants.{Blackened, Whitened, Appended, Refused}
+use Rattle.rules.specs.declared.Answer.the-variants.{Blackened, Whitened, Appended, Counted}
+use Rattle.rules.specs.declared.Answer.the-variants.{Refused}
 use Rattle.theory.specs.Phase as S
 use Rattle.theory.proofs.Steps.{Act, appends, other, Tick, goes, ends, CStep}
 use Rattle.runs.specs.Runs.{kind, firstAppend, lastAppend, blackens, Count, going, closing}
@@ -30,6 +31,7 @@ act (Looked n) = other
 act (Blackened n) = other
 act (Whitened n) = other
 act (Appended n) = appends n
+act (Counted k) = other
 act (Refused code n) = other
 
 -- the node that an editor's answer names
@@ -43,6 +45,7 @@ named (Looked n) = none
 named (Blackened n) = none
 named (Whitened n) = none
 named (Appended n) = none
+named (Counted k) = none
 named (Refused code n) = none
 
 -- what a record counts
@@ -53,7 +56,7 @@ counts x = record {
   took = x .took;
   cycles = x .cycles;
   blackened = x .blackened;
-  marked = x .inuse;
+  marked = x .lastblackened;
 }
 
 -- the record after a step of the collector from a phase of kind k to one of kind k′, which answered

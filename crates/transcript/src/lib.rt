@@ -585,7 +585,7 @@ pub fn start() -> Session
         cycles: 0,
         took: 0,
         blackened: 0,
-        inuse: 0,
+        lastblackened: 0,
     };
     let run = Run {
         rec,

@@ -6,6 +6,15 @@ TAKE, LINK, SHADE, COLLECT, LOOK = range(5)
 SIDES = "LR"
 
 
+def bad_colour(rng):
+    return rng.choice((3, 4, 127, 128, 254, 255))
+
+
+def bad_edge(rng, m):
+    """Of a table of m nodes."""
+    return rng.choice((1, m, m + 1, 4096, 4097, 32768, 65534, 65535))
+
+
 class Sim:
     def __init__(self, m, r):
         self.m, self.r = m, r
@@ -16,7 +25,7 @@ class Sim:
         for n in range(r + 2, m):
             self.e[0][self.last] = n
             self.last = n
-        self.steps = self.cycles = self.lastc = self.black = self.inuse = 0
+        self.steps = self.cycles = self.lastc = self.black = self.lastblack = 0
 
     def load(self, edges, last):
         """A sound export, loaded into a new table."""
@@ -76,7 +85,7 @@ class Sim:
             if self.col[i] == 1:
                 self.tag = LEFT
             elif self.k == 1:
-                self.tag, self.i, self.k, self.inuse = APPEND, 0, 0, self.black
+                self.tag, self.i, self.k, self.lastblack = APPEND, 0, 0, self.black
             else:
                 self.i, self.k = (i + 1) % m, self.k - 1
         elif tag == LEFT or tag == RIGHT:

@@ -1,24 +1,18 @@
-"""Lines for `model --state`, `--run`, `--fresh` and `--load`. A family is given a random
-source and a sound table with its record, may change these, and answers a step:
-kind, slot, count, word, side, toslot, tocount, toword. Some are invented, or damaged: every call
-answers, whatever it is given [Calls 1]."""
+"""Lines for `model --state` and the other modes. A family is given a random source and a sound
+table with its record, may change these, and answers a step: kind, slot, count, word, side, toslot,
+tocount, toword. Some are invented, or damaged: every call answers, whatever it is given
+[Calls 1]."""
 
 import random
 
 import exports
 import families
+import graphs
 from schedule import Schedule
-from sim import APPEND, BLACK, COLLECT, LEFT, LINK, LOOK, RIGHT, ROOTS, SCAN, SHADE, TAKE
+from sim import (APPEND, BLACK, COLLECT, LEFT, LINK, LOOK, RIGHT, ROOTS, SCAN, SHADE, TAKE, Sim,
+                 bad_colour, bad_edge)
 
 U32 = 4294967295
-
-
-def bad_colour(rng):
-    return rng.choice((3, 4, 127, 128, 254, 255))
-
-
-def bad_edge(rng, sim):
-    return rng.choice((1, sim.m, sim.m + 1, 4096, 4097, 32768, 65534, 65535))
 
 
 def beyond(rng, value):
@@ -61,7 +55,7 @@ def collecting(rng, sim):
     sim.e[0][sim.i], sim.e[1][sim.i] = rng.choices((0, *range(2, m)), k=2)
     sim.col[:] = rng.choices(range(3), k=m)
     sim.last = rng.choice((sim.last, 1, *range(sim.r + 2, m)))
-    sim.black, sim.inuse = rng.choice((0, m, rng.randint(0, m))), rng.randint(0, m)
+    sim.black, sim.lastblack = rng.choice((0, m, rng.randint(0, m))), rng.randint(0, m)
     sim.steps, sim.lastc = rng.choice((0, b - 2, b - 1, rng.randrange(b))), rng.randint(0, b)
     sim.cycles = rng.choice((0, 65535, U32 - 1, U32, U32, rng.randrange(U32)))
     return plain(rng, sim, COLLECT)
@@ -71,7 +65,7 @@ def collecting_bad(rng, sim):
     """Bad values where the phase reads them, and where it does not."""
     step = collecting(rng, sim)
     v, (left, right), col, i = vars(sim), sim.e, sim.col, sim.i
-    edge, colour, root = bad_edge(rng, sim), bad_colour(rng), rng.randrange(sim.r + 2)
+    edge, colour, root = bad_edge(rng, sim.m), bad_colour(rng), rng.randrange(sim.r + 2)
     ways = [[(col, i, colour)]]
     if sim.tag in (LEFT, RIGHT):
         near, far = sim.e if sim.tag == LEFT else sim.e[::-1]
@@ -100,7 +94,7 @@ def damaged(rng, sim):
             step[at:at + 3] = rng.randrange(sim.r), 12, rng.randrange(4096)
     for _ in range(rng.randint(0, 4)):
         n, which = rng.choice((2, 3, sim.owed or 0, rng.randrange(sim.m))), rng.randrange(3)
-        (*sim.e, sim.col)[which][n] = bad_colour(rng) if which == 2 else bad_edge(rng, sim)
+        (*sim.e, sim.col)[which][n] = bad_colour(rng) if which == 2 else bad_edge(rng, sim.m)
     return step
 
 
@@ -109,7 +103,7 @@ def taking(rng, sim):
     m, r, (left, right), col, v = sim.m, sim.r, sim.e, sim.col, vars(sim)
     f, g = rng.sample(range(r + 2, m), 2)
     slot, side = rng.randrange(r), rng.randrange(2)
-    colour, edge = bad_colour(rng), bad_edge(rng, sim)
+    colour, edge = bad_colour(rng), bad_edge(rng, sim.m)
     chain = rng.choice((1, 2, r + 1, r + 2, m - 1, m, m + 1, 65535))
     step, n = [TAKE, slot, 0, 0, rng.randrange(2), 0, 0, 0], slot + 2
     at_f, at_g = [[(sim.e[side], n, node), (step, 2, 1), (step, 3, side)] for node in (f, g)]
@@ -144,7 +138,7 @@ def records(rng, sim):
     field, values = rng.choice((
         ("i", (0, r, r + 1, r + 2, m - 1, m, m + 1, 65535)), ("k", (0, 1, m - 1, m, m + 1, 65535)),
         ("owed", (0, 1, 2, r + 1, m - 1, m, 65535)), ("black", (m - 1, m, m + 1, 65535)),
-        ("last", (0, 1, 2, r + 1, r + 2, m - 1, m, m + 1, 65535)), ("inuse", (m, m + 1, 65535)),
+        ("last", (0, 1, 2, r + 1, r + 2, m - 1, m, m + 1, 65535)), ("lastblack", (m, m + 1, 65535)),
         ("steps", (b - 2, b - 1, b, b + 1, U32)), ("lastc", (b - 1, b, b + 1, U32))))
     step = plain(rng, sim, rng.choice((None, None, COLLECT, SHADE, 5)))
     if field in "ik":
@@ -171,14 +165,14 @@ def limits(rng, sim):
 
 def order(rng, sim):
     """Two or three faults at once: the first in the order told is answered."""
-    m, r, v, left, col, edge = sim.m, sim.r, vars(sim), sim.e[0], sim.col, bad_edge(rng, sim)
+    m, r, v, left, col, edge = sim.m, sim.r, vars(sim), sim.e[0], sim.col, bad_edge(rng, sim.m)
     a, b, c, f, g = rng.sample(range(r + 2, m), 5)
     s, w, t, u = rng.randrange(r), rng.randrange(4), rng.randrange(r), rng.randrange(4)
     step = [rng.choice((TAKE, LINK)), s, 2, w, rng.randrange(2), t, 2, u]
     first, then, to, far = sim.e[w & 1], sim.e[w >> 1], sim.e[u & 1], sim.e[u >> 1]
     sim.owed = None
     make([(to, t + 2, c), (first, s + 2, a), (then, a, b), (left, 1, f), (left, f, g)])
-    faults = [(sim.e, 0, left + [0]), (v, "m", m + 1), (v, "last", 0), (v, "inuse", m + 1),
+    faults = [(sim.e, 0, left + [0]), (v, "m", m + 1), (v, "last", 0), (v, "lastblack", m + 1),
               (v, "i", 65535), (v, "owed", rng.choice((0, 2, m - 1))), (step, 0, 5), (step, 4, 2),
               (step, 1, r), (step, 2, 13), (step, 3, 4), (first, s + 2, edge), (then, a, edge),
               (first, s + 2, 0)]
@@ -209,7 +203,7 @@ def sound(rng, low, high):
 def numbers(sim):
     owed = (0, 0) if sim.owed is None else (1, sim.owed)
     out = [sim.m, sim.r, sim.tag, sim.i, sim.k if sim.tag == SCAN else 0, *owed, sim.last,
-           sim.steps, sim.cycles, sim.lastc, sim.black, sim.inuse]
+           sim.steps, sim.cycles, sim.lastc, sim.black, sim.lastblack]
     for array in (*sim.e, sim.col):
         out += [len(array), *array]
     return out
@@ -300,8 +294,33 @@ def load_lines(seed):
         yield line + [number for array in arrays for number in (len(array), *array)]
 
 
+def asked(rng, x):
+    """An export as a table in any phase, with any good record and any colours."""
+    sim = Sim(x.m, x.r)
+    sim.load(x.e, x.last())
+    m, b = sim.m, sim.bound()
+    sim.tag, sim.i, sim.k = rng.randrange(6), rng.randrange(sim.r + 2), rng.randint(1, m)
+    sim.owed = rng.choice((None, 0, rng.randrange(2, m)))
+    sim.black, sim.lastblack = rng.randint(0, m), rng.randint(0, m)
+    sim.steps, sim.cycles, sim.lastc = rng.randrange(b), rng.randint(0, U32), rng.randint(0, b)
+    sim.col[:] = rng.choices(range(rng.choice((1, 3, 3, 256))), k=m)
+    return sim
+
+
+def inuse_lines(seed):
+    rng = random.Random(seed)
+    for j in range(162):
+        if j % 9 == 0:
+            sim = sound(rng, 3, 24)
+        else:
+            sim = asked(rng, (graphs.table if j < 160 else graphs.large)(rng, j))
+        if j % 5 == 2:
+            rng.choice((sizes, records, records))(rng, sim)
+        yield numbers(sim)
+
+
 MODES = {"": families.schedule, "--state": state_lines, "--run": run_lines, "--fresh": fresh_lines,
-         "--load": load_lines}
+         "--load": load_lines, "--inuse": inuse_lines}
 
 
 def text_of(mode, seed):

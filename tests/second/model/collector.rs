@@ -46,7 +46,7 @@ fn scan(table: &mut Table, record: &mut Record, i: usize, k: usize) -> Reply {
     } else if k == 1 {
         move_on(record, Phase::Append(0));
         // [Record 10]
-        record.in_use = record.blackened;
+        record.blackened_last_cycle = record.blackened;
     } else {
         move_on(record, Phase::Scan(next(record, i), k - 1));
     }

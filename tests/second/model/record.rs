@@ -37,7 +37,7 @@ pub struct Record {
     pub cycles: usize,
     pub last_cycle_steps: usize,
     pub blackened: usize,
-    pub in_use: usize,
+    pub blackened_last_cycle: usize,
 }
 
 /// [Record 7]
@@ -55,7 +55,7 @@ pub fn begin(m: usize, r: usize, last: usize) -> Record {
         cycles: 0,
         last_cycle_steps: 0,
         blackened: 0,
-        in_use: 0,
+        blackened_last_cycle: 0,
     }
 }
 
@@ -128,7 +128,7 @@ impl Record {
             return refuse(RECORD);
         }
         // the counts of nodes
-        if self.blackened > self.m || self.in_use > self.m {
+        if self.blackened > self.m || self.blackened_last_cycle > self.m {
             return refuse(RECORD);
         }
         // the counts of steps

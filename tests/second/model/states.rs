@@ -1,10 +1,11 @@
-//! The modes --state, --run, --fresh and --load.
+//! The modes --state, --run, --fresh, --load and --inuse.
 
 use std::convert::TryFrom;
 use std::io::{self, BufRead, Write};
 
 use crate::answer::DONE;
 use crate::editor::Place;
+use crate::inuse::nodes_in_use;
 use crate::load::load;
 use crate::record::{fresh, Phase, Record, LARGEST_CYCLES};
 use crate::step::{do_run, do_step, Step};
@@ -47,7 +48,7 @@ impl<'a> Numbers<'a> {
             cycles: self.take().filter(|&cycles| cycles <= LARGEST_CYCLES)?,
             last_cycle_steps: self.take()?,
             blackened: self.take()?,
-            in_use: self.take()?,
+            blackened_last_cycle: self.take()?,
         })
     }
 
@@ -96,7 +97,7 @@ fn show(record: &Record, table: &Table) -> String {
     let (owing, owed) = record.owed.map_or((0, 0), |node| (1, node));
     let mut numbers = vec![record.m, record.r, tag, record.phase.position(), k];
     numbers.extend([owing, owed, record.last, record.steps, record.cycles]);
-    numbers.extend([record.last_cycle_steps, record.blackened, record.in_use]);
+    numbers.extend([record.last_cycle_steps, record.blackened, record.blackened_last_cycle]);
     for edges in &table.edges {
         numbers.push(edges.len());
         numbers.extend(edges.iter().map(|&edge| edge as usize));
@@ -149,6 +150,17 @@ pub fn load_line(numbers: &mut Numbers) -> Option<String> {
         Err(refusal) => (refusal.code, refusal.node),
     };
     Some(format!("{} {} {}", code, node, show(&record, &table)))
+}
+
+pub fn inuse_line(numbers: &mut Numbers) -> Option<String> {
+    let record = numbers.record()?;
+    let table = numbers.table()?;
+    numbers.end()?;
+    let (code, number) = match nodes_in_use(&table, &record) {
+        Ok(count) => (DONE, count),
+        Err(refusal) => (refusal.code, refusal.node),
+    };
+    Some(format!("{} {}", code, number))
 }
 
 pub fn program(

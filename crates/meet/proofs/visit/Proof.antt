@@ -1,11 +1,11 @@
--- `visit` meets its contract: its tests are the definition's. A node that has no number leaves room
--- for one: the tail is below m.
+-- `visit` meets its contract: its tests are the definition's, but that a node with a number is left
+-- at once. A node that has no number leaves room for one: the tail is below m.
 use borrow.Author.Needs.{needs}
 use native.Mathlib.Omega.{arith}
 use Rattle.base.proofs.Tests.{tests}
 use Rattle.rules.specs.Table.{badEdge}
 use Rattle.rules.specs.Meet.{visit}
-use Rattle.reach.proofs.Kept.{room}
+use Rattle.reach.proofs.Kept.{visit-again, room}
 use Rattle.meet.proofs.visit.Statement.{statement}
 use Rattle.meet.proofs.visit.Tie as tie
 
@@ -13,19 +13,18 @@ returns : tie.Need-returns
 unfolding visit badEdge
 returns c = search (tests, needs) depth 12
 
+mul-if2 : tie.Need-mul-if2
+mul-if2 c = search needs
+
+element-copy-out-if2 : tie.Need-element-copy-out-if2
+element-copy-out-if2 c = search needs
+
 returns-2 : tie.Need-returns-2
-unfolding visit badEdge
-returns-2 c = search (tests, needs) depth 12
+returns-2 c = visit-again _ _ _ (c .if2 .taken)
 
 returns-3 : tie.Need-returns-3
 unfolding visit badEdge
 returns-3 c = search (tests, needs) depth 12
-
-mul-if4 : tie.Need-mul-if4
-mul-if4 c = search needs
-
-element-copy-out-if4 : tie.Need-element-copy-out-if4
-element-copy-out-if4 c = search needs
 
 returns-4 : tie.Need-returns-4
 unfolding visit badEdge
@@ -82,10 +81,10 @@ visit-spec =
     tie.close
     (tie.spec
     returns
+    mul-if2
+    element-copy-out-if2
     returns-2
     returns-3
-    mul-if4
-    element-copy-out-if4
     returns-4
     cast-num
     mul-num
