@@ -1,24 +1,31 @@
--- A list that is written from the front, element by element.
-use Prim.Native.Nat.{ℕ, _+_, _<_, _≤_}
+-- A list that is written from the back, element by element.
+use Prim.Native.Nat.{ℕ, zero, suc, _+_, _≤_}
 use native.Mathlib.Omega.{arith}
 use native.Mathlib.Numerals.{add-one}
-use mathlib.Core.Path.{_≡_, refl, sym, ap, _∙_}
-use mathlib.Core.List.{List, []}
-use lib.ListN.{length, take, set}
-use lib.Seq.{take-suc-set, take-length}
+use mathlib.Core.Path.{_≡_}
+use mathlib.Core.List.{List, _∷_, _++_, append-nil}
+use lib.ListN.{length, take, drop, set}
+use lib.Seq.{drop-length, length-take-le, append-snoc, set-split, drop-at}
 use Rattle.rules.specs.Fresh.{tabulate}
 
-pub none : (f : ℕ → ℕ) → [] ≡ tabulate f 0
-unfolding tabulate
-none f = refl
+-- What is still to be written, as f has it, in front of what is written, is one and the same list
+-- at every turn.
+pub ahead : (f : ℕ → ℕ) (l : List ℕ) (n : ℕ) → length l ≡ n
+    → tabulate f n ++ drop n l ≡ tabulate f n
+ahead f l n h = rw (← h, drop-length l, append-nil)
 
-pub more : (f : ℕ → ℕ) (l : List ℕ) (i v : ℕ) → i < length l → take i l ≡ tabulate f i → v ≡ f i
-    → take (i + 1) (set l i v) ≡ tabulate f (i + 1)
+pub shift : (f : ℕ → ℕ) (n : ℕ) (l : List ℕ)
+    → tabulate f (suc n) ++ l ≡ tabulate f n ++ (f n ∷ l)
 unfolding tabulate
-more f l i v h e q = rw (add-one, take-suc-set l i v h, e, q)
+shift f n l = append-snoc (tabulate f n) (f n) l
 
-pub whole : (f : ℕ → ℕ) (l : List ℕ) (n i : ℕ) → length l ≡ n → n ≤ i → i ≤ n → take i l
-    ≡ tabulate f i → l ≡ tabulate f n
-whole f l n i h p q e =
-    let k : i ≡ n = omega arith in
-    sym (take-length l) ∙ ap (λ (k : ℕ). take k l) h ∙ (rw k at e)
+pub down : (f : ℕ → ℕ) (l w : List ℕ) (n i v : ℕ) → n ≡ i + 1 → n ≤ length l → v ≡ f i
+    → tabulate f n ++ drop n l ≡ w → tabulate f i ++ drop i (set l i v) ≡ w
+down f l w n i v h k q e =
+    let cut = drop-at (take i l) (v ∷ drop (suc i) l) i (length-take-le i l (omega arith)) in
+    rw (set-split l i v (omega arith), cut, q, ← shift f i) (rw (h, add-one) at e)
+
+pub done : (f : ℕ → ℕ) (l w : List ℕ) (n : ℕ) → n ≤ 0 → tabulate f n ++ drop n l ≡ w → l ≡ w
+unfolding tabulate
+done f l w zero h e = e
+done f l w (suc n) h e = absurd (omega arith)

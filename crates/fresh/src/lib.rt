@@ -3,59 +3,75 @@ use rules::Answer;
 use rules::Made;
 use rules::Record;
 ghost use mathlib.Core.Path.{_≡_};
-ghost use mathlib.Core.List.{[], _∷_};
-ghost use Prim.Native.Nat.{_<_, _≤_};
-ghost use lib.ListN.{length};
-ghost use Rattle.rules.specs.Table.{mostNodes, mostSlots, state};
+ghost use mathlib.Core.List.{[], _∷_, _++_};
+ghost use Prim.Native.Nat.{_+_, _≤_};
+ghost use lib.ListN.{length, drop};
+ghost use Rattle.rules.specs.Table.{mostSlots, state};
 ghost use Rattle.rules.specs.Records.{freshRecord};
-ghost use Rattle.rules.specs.Fresh.{nextFree, freshLeft, freshLast, freshState, fresh};
+ghost use Rattle.rules.specs.Fresh.{tabulate, nextFree, freshLeft, noEdge, allWhite};
+ghost use Rattle.rules.specs.Fresh.{freshLast, freshState, fresh};
 ghost use Rattle.base.specs.Lent.{was, is};
 ghost use Rattle.rules.specs.Lent.{leaves};
 
-// The node after n on the free list.
-fn next_free(m: u16, n: u16) -> u16
-    requires { ⌜ n ≤ mostNodes ⌝ }
-    ensures { λ e. ⌜ e ≡ nextFree m n ⌝ }
+// Links the free nodes, from the last down to the first: each leads to the one written before it,
+// the last to NIL. The first is returned; 0 if none is free.
+fn link_free(left: &mut [u16], m: u16, r: u16) -> u16
+    requires { ⌜ length (now left) ≡ m ⌝ }
+    requires { ⌜ r + 2 ≤ m ⌝ }
+    ensures { λ first. ⌜ first ≡ nextFree m (r + 1) ⌝ }
+    ensures { λ _. ⌜ tabulate (freshLeft m r) (r + 2) ++ drop (r + 2) (is left)
+        ≡ tabulate (freshLeft m r) m ⌝ }
 {
-    if n + 1 < m {
-        return n + 1;
+    let roots = r as usize + 2;
+    let mut next = 0;
+    let mut n = m as usize;
+    while roots < n {
+        n -= 1;
+        let node = n as u16;
+        left[n] = next;
+        next = node;
     }
-    0
+    next
 }
 
-// The left edge of node n.
-fn left_of(m: u16, r: u16, n: u16) -> u16
-    requires { ⌜ r ≤ mostSlots ⌝ }
-    requires { ⌜ n < mostNodes ⌝ }
-    ensures { λ e. ⌜ e ≡ freshLeft m r n ⌝ }
+// Clears the first n edges.
+fn clear(edges: &mut [u16], n: u16)
+    requires { ⌜ n ≤ length (now edges) ⌝ }
+    ensures { λ _. ⌜ is edges ≡ tabulate noEdge n ++ drop n (was edges) ⌝ }
 {
-    if n == 1 {
-        return next_free(m, r + 1);
+    let mut i = n as usize;
+    while 0 < i {
+        i -= 1;
+        edges[i] = 0;
     }
-    if n < r + 2 {
-        return 0;
-    }
-    next_free(m, n)
 }
 
-// Writes every node.
+// Makes every node white.
+pub fn whiten(colour: &mut [u8])
+    ensures { λ _. ⌜ is colour ≡ tabulate allWhite (length (was colour)) ⌝ }
+{
+    let mut n = colour.len();
+    while 0 < n {
+        n -= 1;
+        colour[n] = 0;
+    }
+}
+
+// Writes every node, from the top. FREE leads to the first free node; to NIL if none is free.
 fn fill(left: &mut [u16], right: &mut [u16], colour: &mut [u8], m: u16, r: u16)
     requires { ⌜ length (now left) ≡ m ⌝ }
     requires { ⌜ length (now right) ≡ m ⌝ }
     requires { ⌜ length (now colour) ≡ m ⌝ }
-    requires { ⌜ m ≤ mostNodes ⌝ }
-    requires { ⌜ r ≤ mostSlots ⌝ }
+    requires { ⌜ r + 2 ≤ m ⌝ }
     ensures { λ _. ⌜ state (is left) (is right) (is colour) (freshRecord m r (freshLast m r))
         ≡ freshState 2 m r ⌝ }
 {
-    let mut n = 0;
-    while n < m {
-        let at = n as usize;
-        left[at] = left_of(m, r, n);
-        right[at] = 0;
-        colour[at] = 0;
-        n += 1;
-    }
+    let first = link_free(left, m, r);
+    let roots = r + 2;
+    clear(left, roots);
+    left[1] = first;
+    clear(right, m);
+    whiten(colour);
 }
 
 // The last free node, or FREE.

@@ -7,7 +7,6 @@ ghost use mathlib.Core.List.{List, [], _∷_};
 ghost use Prim.Native.Nat.{ℕ, _+_, _<_, _≤_};
 ghost use lib.ListN.{length, take};
 ghost use Rattle.rules.specs.Table.{mostNodes, mostSlots, handed, refused};
-ghost use Rattle.rules.specs.Fresh.{tabulate, allWhite};
 ghost use Rattle.rules.specs.Meet.{blank, anyEdge};
 ghost use Rattle.rules.specs.Load.{loadSizeOf, badGiven, firstBad, chained, chain};
 ghost use Rattle.rules.specs.Load.{isShared, firstShared, judgeFree, loadBy, load};
@@ -212,16 +211,6 @@ fn copy(given: &[u16], edges: &mut [u16])
     }
 }
 
-fn whiten(colour: &mut [u8])
-    ensures { λ _. ⌜ is colour ≡ tabulate allWhite (length (was colour)) ⌝ }
-{
-    let mut n = 0;
-    while n < colour.len() {
-        colour[n] = 0;
-        n += 1;
-    }
-}
-
 // The table of lists whose edges are good, or none.
 fn load_table(
     lefts: &[u16],
@@ -254,7 +243,7 @@ fn load_table(
     }
     copy(lefts, left);
     copy(rights, right);
-    whiten(colour);
+    fresh::whiten(colour);
     Made {
         answer,
         rec: Record::fresh(m, r, answer.node()),

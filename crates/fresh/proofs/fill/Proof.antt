@@ -1,111 +1,68 @@
--- The first n entries of each list are those of the definition: a turn adds one to each, and at
--- M the lists are whole.
-use Prim.Native.Nat.{_-_, _≤_}
-use mathlib.Core.Path.{_≡_, refl}
-use lib.ListN.{length, take, length-set}
+-- `fill` meets its contract: from R + 2 on `link_free` leaves the definition's left edges; below,
+-- all are cleared but FREE's, which leads to the first free node. Nothing else is written but 0.
+use borrow.Author.Needs.{needs}
 use native.Mathlib.Omega.{arith}
-use Rattle.rules.specs.Fresh.{tabulate, freshLeft, noEdge, allWhite, freshState}
-use Rattle.fresh.proofs.Fills.{none, more, whole}
+use mathlib.Core.Path.{_∙_}
+use lib.ListN.{length-set}
+use Rattle.rules.specs.Fresh.{noEdge, freshState}
+use Rattle.fresh.proofs.Fills.{ahead}
+use Rattle.fresh.proofs.Lefts.{with-roots}
 use Rattle.fresh.proofs.fill.Statement.{statement}
 use Rattle.fresh.proofs.fill.Tie as tie
 
-abbrev Inv-loop : tie.InvT-loop
-Inv-loop left₀ right₀ colour₀ m r n₀ left right colour n =
-    (n ≤ m) × (length left ≡ m) × (length right ≡ m) × (length colour ≡ m) ×
-    (take n left ≡ tabulate (freshLeft m r) n) × (take n right ≡ tabulate noEdge n) ×
-    (take n colour ≡ tabulate allWhite n)
+link-free-requires : tie.Need-link-free-requires
+link-free-requires c κs = search needs
 
-abbrev μ-loop : tie.MeasureT-loop
-μ-loop left₀ right₀ colour₀ m r n₀ left right colour n = m - n
+add-roots : tie.Need-add-roots
+add-roots c = search needs
 
-loop-holds : tie.Need-loop-holds Inv-loop μ-loop
-loop-holds c = (omega arith, omega arith, omega arith, omega arith, none _, none _, none _)
+clear-requires : tie.Need-clear-requires
+clear-requires c κs = search needs
 
-cast-at : tie.Need-cast-at Inv-loop μ-loop
-cast-at c = omega arith
+slice-write-left : tie.Need-slice-write-left
+slice-write-left c = search needs
 
-left-of-requires : tie.Need-left-of-requires Inv-loop μ-loop
-left-of-requires c κs = omega arith
+clear-requires-2 : tie.Need-clear-requires-2
+clear-requires-2 c κs = search needs
 
-mul-left : tie.Need-mul-left Inv-loop μ-loop
-mul-left c = omega arith
+whiten-requires : tie.Need-whiten-requires
+whiten-requires c κs = search needs
 
-slice-write-left : tie.Need-slice-write-left Inv-loop μ-loop
-slice-write-left c = omega arith
+same-length : tie.Need-same-length
+same-length c = simp length-set (omega arith)
 
-mul-right : tie.Need-mul-right Inv-loop μ-loop
-mul-right c = omega arith
+same-length-2 : tie.Need-same-length-2
+same-length-2 c = search needs
 
-slice-write-right : tie.Need-slice-write-right Inv-loop μ-loop
-slice-write-right c = omega arith
+same-length-3 : tie.Need-same-length-3
+same-length-3 c = search needs
 
-slice-write-colour : tie.Need-slice-write-colour Inv-loop μ-loop
-slice-write-colour c = omega arith
-
-add-n : tie.Need-add-n Inv-loop μ-loop
-add-n c = omega arith
-
-loop-less : tie.Need-loop-less Inv-loop μ-loop
-loop-less c = omega arith
-
-loop-again : tie.Need-loop-again Inv-loop μ-loop
-loop-again c =
-    let at-entry = c .before .before .before .before .before .before in (
-      omega arith,
-      simp length-set (omega arith),
-      simp length-set (omega arith),
-      simp length-set
-          (omega arith),
-      more (freshLeft (at-entry .args .m) (at-entry .args .r))
-          (c .before .before .loop .left) (c .before .before .loop .n) (c .left-of .result)
-          (omega arith) (c .before .before .loop .inv .4) (c .left-of .ensures),
-      more noEdge
-          (c .before .before .loop .right) (c .before .before .loop .n) 0 (omega arith)
-          (c .before .before .loop .inv .5) refl,
-      more allWhite (c .before .before .loop .colour)
-          (c .before .before .loop .n) 0 (omega arith) (c .before .before .loop .inv .6) refl,
-    )
-
-same-length : tie.Need-same-length Inv-loop μ-loop
-same-length c = omega arith
-
-same-length-2 : tie.Need-same-length-2 Inv-loop μ-loop
-same-length-2 c = omega arith
-
-same-length-3 : tie.Need-same-length-3 Inv-loop μ-loop
-same-length-3 c = omega arith
-
-returns : tie.Need-returns Inv-loop μ-loop
+returns : tie.Need-returns
 unfolding freshState
-returns c = let a =
-    whole (freshLeft (c .before .before .before .before .before .args .m)
-    (c .before .before .before .before .before .args .r)) (c .before .loop .left)
-    (c .before .before .before .before .before .args .m) (c .before .loop .n) (omega arith)
-    (omega arith) (omega arith) (c .before .loop .inv .4) in
-    let b = whole noEdge (c .before .loop .right)
-    (c .before .before .before .before .before .args .m) (c .before .loop .n) (omega arith)
-    (omega arith) (omega arith) (c .before .loop .inv .5) in
-    let d = whole allWhite (c .before .loop .colour)
-    (c .before .before .before .before .before .args .m) (c .before .loop .n) (omega arith)
-    (omega arith) (omega arith) (c .before .loop .inv .6) in cc
+returns c =
+    let at-whiten = c .before .before in
+    let at-clear2 = at-whiten .before .before .before .before in
+    let at-clear = at-clear2 .before .before .before .before in
+    let at-link-free = at-clear .before .before .before .before in
+    let at-entry = at-link-free .before .before .before .before .before in
+    let m = at-entry .args .m in
+    let linked = at-link-free .link-free .ensures in
+    let left = with-roots m (at-entry .args .r) _ (linked .0) _ _ (linked .1)
+    (at-clear .clear .ensures) in
+    let right = at-clear2 .clear2 .ensures ∙ ahead noEdge (at-entry .args .right .now) m
+    (omega arith) in
+    cc
 
 pub fill-spec : {M : Type 1} → statement M
 fill-spec =
     tie.close
     (tie.spec
-    Inv-loop
-    μ-loop
-    loop-holds
-    cast-at
-    left-of-requires
-    mul-left
+    link-free-requires
+    add-roots
+    clear-requires
     slice-write-left
-    mul-right
-    slice-write-right
-    slice-write-colour
-    add-n
-    loop-less
-    loop-again
+    clear-requires-2
+    whiten-requires
     same-length
     same-length-2
     same-length-3
