@@ -142,24 +142,28 @@ enum {
     JENTURIK_FREE_NODE_IN_USE = 13 /* the lowest free node that a slot leads to */
 };
 
-/* An answer: what was done, the code, and the node. A refusal's node is 0, but for codes 7, 11, 12
- * and 13. If nodes were counted, the number stands in place of the node. */
+/* An answer: what was done, the code, the node, and how many colours were changed: 0 to 2, and 0
+ * from fresh, load and in use. A refusal's node is 0, but for codes 7, 11, 12 and 13. If nodes were
+ * counted, the number stands in place of the node. */
 typedef struct {
-    uint32_t what, code, node;
+    uint32_t what, code, node, changed;
 } jenturik_told;
 
-/* A schedule's answer: how many steps were done, and the refused step's code, or 0. */
+/* A schedule's answer: how many steps were done, the refused step's code, or 0, and how many
+ * colours the steps changed in all (UINT32_MAX where that does not fit). */
 typedef struct {
     size_t done;
-    uint32_t code;
+    uint32_t code, changed;
 } jenturik_done;
 
-/* The answer of many collector steps: how many were done, and the answer of the last one, or of the
- * one that was refused. */
+/* The answer of many collector steps: how many were done, how many colours they changed in all
+ * (UINT32_MAX where that does not fit), and the answer of the last one, or of the one that was
+ * refused. */
 typedef struct {
     size_t done;
-    uint16_t what, code;
-    uint32_t node;
+    uint32_t changed;
+    uint16_t node;
+    uint8_t what, code;
 } jenturik_last;
 
 /* A step of a schedule. The kinds are take 0, link 1, shade 2, one collector step 3, look 4. A

@@ -1,6 +1,8 @@
 /* The batch against single steps, and both against plain C, and In use against plain C: random
-   tables, damaged ones, invented records, wrong lengths. diff RUNS: as many runs; says how many
-   steps were made and which codes came, and ends with 1 at the first difference. */
+   tables, damaged ones, invented records, wrong lengths. The colours changed are counted by
+   comparing, at each single step of either. diff RUNS: as many runs; says how many steps were made,
+   how many colours changed and which codes came, and ends with 1 at the first difference. */
+#include "colours.h"
 #include "library.h"
 #include <stdio.h>
 #include <stdlib.h>
@@ -12,13 +14,14 @@ struct place {
     uint16_t left[MOST], right[MOST];
     uint8_t colour[MOST];
     uint32_t words[JENTURIK_WORDS];
-    size_t done;
+    size_t done, changed;
     struct answer answer; /* of the last step, or of the one that was refused */
 };
 
 static struct place begun, batch, steps, plain;
 static struct record x;
 static struct table t;
+static uint8_t before[MOST]; /* the colours before a step */
 static uint64_t seed = 88172645463325252u;
 
 static uint32_t below(uint32_t n) {
@@ -112,7 +115,11 @@ static void random_record(uint32_t m) {
 static void lend(struct place *p) {
     memcpy(p, &begun, sizeof begun);
     t.left = p->left, t.right = p->right, t.colour = p->colour;
+    memcpy(before, p->colour, sizeof before);
 }
+
+/* How many colours a step changed. */
+static size_t compared(void) { return recoloured(before, t.colour, t.colours); }
 
 static void by_plain(size_t n) {
     struct answer a = {NAMED, 0, 0};
@@ -122,6 +129,7 @@ static void by_plain(size_t n) {
     if (code) a.kind = REFUSED, a.code = code;
     while (plain.done < n && !a.code) {
         a = plain_step(&t, &x);
+        plain.changed += compared();
         if (!a.code) plain.done++;
     }
     words_of(plain.words, &x), plain.answer = a;
@@ -129,12 +137,20 @@ static void by_plain(size_t n) {
 
 static void by_batch(size_t n) {
     jenturik_last a = library_many(&t, batch.words, n);
-    batch.done = a.done, batch.answer = (struct answer){a.what, a.code, a.node};
+    batch.done = a.done, batch.changed = a.changed;
+    batch.answer = (struct answer){a.what, a.code, a.node};
 }
 
-static void by_steps(size_t n) {
-    for (steps.done = 0; steps.done < n && library_collect(&t, steps.words).code == 0; steps.done++)
-        continue;
+/* Whether each step tells the colours that it changed. */
+static int by_steps(size_t n) {
+    int told = 1, code = 0;
+    while (steps.done < n && code == 0) {
+        jenturik_told a = library_collect(&t, steps.words);
+        size_t changed = compared();
+        told = told && a.changed == changed;
+        code = a.code, steps.done += code == 0, steps.changed += changed;
+    }
+    return told;
 }
 
 /* Whether In use differs from plain C on what is lent; counts its codes. */
@@ -145,7 +161,8 @@ static int in_use_differs(const uint32_t *words, uint64_t *codes) {
 }
 
 static int differ(const struct place *a, const struct place *b) {
-    return a->done != b->done || memcmp(a->left, b->left, sizeof a->left) ||
+    return a->done != b->done || a->changed != b->changed ||
+           memcmp(a->left, b->left, sizeof a->left) ||
            memcmp(a->right, b->right, sizeof a->right) ||
            memcmp(a->colour, b->colour, sizeof a->colour) ||
            memcmp(a->words, b->words, sizeof a->words);
@@ -153,7 +170,7 @@ static int differ(const struct place *a, const struct place *b) {
 
 int main(int argc, char **argv) {
     static uint64_t codes[11], in_use[11];
-    uint64_t runs = argc > 1 ? strtoull(argv[1], 0, 10) : 0, made = 0;
+    uint64_t runs = argc > 1 ? strtoull(argv[1], 0, 10) : 0, made = 0, changed = 0;
     if (!runs) return fprintf(stderr, "diff RUNS\n"), 2;
     for (uint64_t k = 0; k < runs; k++) {
         uint32_t m = 3 + below(one_in(200) ? 4094 : one_in(4) ? 300 : 12);
@@ -169,17 +186,20 @@ int main(int argc, char **argv) {
         if (in_use_differs(batch.words, in_use))
             return printf("run %llu: In use differs: M = %u\n", (unsigned long long)k, m), 1;
         by_batch(n);
-        lend(&steps), by_steps(n);
+        lend(&steps);
+        if (!by_steps(n))
+            return printf("run %llu: colours changed: M = %u\n", (unsigned long long)k, m), 1;
         by_plain(n);
         if (differ(&batch, &steps) || differ(&batch, &plain) ||
             memcmp(&batch.answer, &plain.answer, sizeof batch.answer))
             return printf("run %llu differs: M = %u, n = %zu\n", (unsigned long long)k, m, n), 1;
-        made += batch.done, codes[batch.answer.code]++;
+        made += batch.done, changed += batch.changed, codes[batch.answer.code]++;
     }
-    printf("%llu runs, %llu steps, no difference; code 0: %llu, 1: %llu, 2: %llu, 7: %llu; In use "
-           "0: %llu, 7: %llu\n",
-           (unsigned long long)runs, (unsigned long long)made, (unsigned long long)codes[0],
-           (unsigned long long)codes[1], (unsigned long long)codes[2], (unsigned long long)codes[7],
-           (unsigned long long)in_use[0], (unsigned long long)in_use[7]);
+    printf("%llu runs, %llu steps, %llu colours changed, no difference; code 0: %llu, 1: %llu, "
+           "2: %llu, 7: %llu; In use 0: %llu, 7: %llu\n",
+           (unsigned long long)runs, (unsigned long long)made, (unsigned long long)changed,
+           (unsigned long long)codes[0], (unsigned long long)codes[1], (unsigned long long)codes[2],
+           (unsigned long long)codes[7], (unsigned long long)in_use[0],
+           (unsigned long long)in_use[7]);
     return 0;
 }

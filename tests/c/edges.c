@@ -1,7 +1,8 @@
 /* What every call must refuse: null arrays [C 11], wrong lengths [Codes 1], words that are no
  * record [C 4], records out of range [Codes 2], jenturik_fresh's sizes [Fresh 7], and all that
  * jenturik_load judges [Load 6] [Load 7]. And what jenturik_in_use counts [In use 1], refuses
- * [In use 2] and does not read [In use 3].
+ * [In use 2] and does not read [In use 3]. What is refused tells no colours that it changed
+ * [Changes 3].
  * The last line is 'N passed, M failed'. */
 #define _DEFAULT_SOURCE
 #include "lists.h"
@@ -30,7 +31,7 @@ static int refuses(int which, uint32_t code) {
         answer a = call(&t, which);
         take_back(&t, &after);
         good = good && a.code == code && a.what == 0 && a.node == 0 && a.done == 0 &&
-               same(&bad, &after);
+               a.changed == 0 && same(&bad, &after);
     }
     return good;
 }
@@ -135,27 +136,30 @@ static int is_record(const uint32_t *w) {
 }
 
 /* Random words: those that are no record's are refused with 2, and a refused call of either sort
- * leaves them. */
+ * leaves them. A call of one step that changes colours tells how many. */
 static void random_words(long count) {
     static const uint32_t some[] = {0,       1,           2,           5,         6,   M,
                                     255,     256,         257,         65535,     BIG, BIG + 1,
                                     BIG + 5, 0x80000000u, 0xffff0000u, UINT32_MAX};
-    int good = 1, kept = 1;
+    int good = 1, kept = 1, counted = 1;
     bad = sound;
     for (long i = 0; i < count; i++) {
+        int which = (int)below(CALLS);
         memcpy(bad.words, sound.words, sizeof bad.words);
         set_phase(&bad, below(6), below(2));
         for (uint32_t n = below(4); n > 0; n--)
             bad.words[below(JENTURIK_WORDS)] = below(2) ? some[below(16)] : below(9);
         lend(&t, &bad, (int)below(2));
-        answer a = call(&t, (int)below(CALLS));
+        answer a = call(&t, which);
         take_back(&t, &after);
+        if (which != MANY && a.changed != changes(&bad, &after)) counted = 0;
         if (!is_record(bad.words) && (a.code != 2 || a.done != 0)) good = 0;
         if (a.code != 0 && a.done == 0 && !same(&bad, &after)) kept = 0;
         if (is_record(bad.words) && !is_record(after.words)) kept = 0;
     }
     check(good, "random words that are no record are refused with 2", "all calls", count);
     check(kept, "a refused call on random words changes nothing", "all calls", count);
+    check(counted, "a call on random words tells the colours that it changed", "all calls", count);
 }
 
 /* The bad table, lent to a start with words that are no record's. */
@@ -168,7 +172,7 @@ static void lend_bad(int high) {
 static void start_refused(jenturik_told a, uint32_t code, uint32_t node, const char *why,
                           const char *name, long n) {
     take_back(&t, &after);
-    check(a.code == code && a.what == 0 && a.node == node, why, name, n);
+    check(a.code == code && a.what == 0 && a.node == node && a.changed == 0, why, name, n);
     memset(bad.words, 0, sizeof bad.words);
     check(same(&bad, &after), "a refused start leaves the arrays, and the words are all 0", name,
           n);
@@ -225,7 +229,7 @@ static void load_accepts(uint32_t nodes, uint32_t slots, uint32_t last, const ch
         lend_bad(high);
         jenturik_told a = load(&t, &edges, nodes, slots, high);
         take_back(&t, &after);
-        int good = a.code == 0 && a.what == JENTURIK_STARTED && a.node == last;
+        int good = a.code == 0 && a.what == JENTURIK_STARTED && a.node == last && a.changed == 0;
         for (uint32_t i = 0; i < nodes; i++)
             good = good && after.left[i] == edges.left[i] && after.right[i] == edges.right[i] &&
                    after.colour[i] == 0;
@@ -336,7 +340,7 @@ static void tells(uint32_t code, uint32_t number, const char *why, long n) {
         lend(&t, &bad, high);
         jenturik_told a = ask(&t);
         take_back(&t, &after);
-        check(a.code == code && a.node == number &&
+        check(a.code == code && a.node == number && a.changed == 0 &&
                   a.what == (code == 0 ? JENTURIK_COUNTED : JENTURIK_REFUSED),
               why, "in_use", n);
         check(same(&bad, &after), "nothing is changed", "in_use", n);

@@ -10,7 +10,7 @@
 #include <sys/mman.h>
 #include <unistd.h>
 
-enum { FENCE_ROOM = 1 << 16, FENCE_BYTES = 256, FENCE_MARK = 0xa5 };
+enum { FENCE_ROOM = 1 << 17, FENCE_BYTES = 256, FENCE_MARK = 0xa5 };
 
 typedef struct {
     unsigned char *room;  /* FENCE_ROOM bytes */

@@ -1,16 +1,43 @@
 /* Calls in a row: many collector steps at once against single ones, schedules against single steps,
- * every code from a sound table, NIL owed, nodes in use along runs, and that what is lent for
- * reading only is not written.
+ * every code from a sound table, NIL owed, nodes in use along runs, how many colours each call
+ * changed [Changes 1] and how many all of them [Changes 2], and that what is lent for reading only
+ * is not written.
  * The last line is 'N passed, M failed'. */
 #define _DEFAULT_SOURCE
 #include "trial.h"
 
 static table start, many, single;
 
+/* Each answer is of 16 bytes: two registers. Where its fields stand is the library's choice too. */
+_Static_assert(sizeof(jenturik_told) == 16 && offsetof(jenturik_told, changed) == 12,
+               "jenturik_told");
+_Static_assert(sizeof(jenturik_done) == 16 && offsetof(jenturik_done, changed) == 12,
+               "jenturik_done");
+_Static_assert(sizeof(jenturik_last) == 16 && offsetof(jenturik_last, changed) == 8 &&
+                   offsetof(jenturik_last, node) == 12,
+               "jenturik_last");
+
+static uint8_t before[MOST]; /* the colours before a call */
+static long counted, miscounted;
+
+/* Lends the table, and keeps its colours to compare with. */
+static void lend_start(int high) {
+    lend(&t, &start, high);
+    memcpy(before, start.colour, start.colours);
+}
+
+/* How many colours a call changed, by comparing; the call must have told the same. */
+static uint32_t compared(uint32_t changed) {
+    uint32_t n = recoloured(before, t.c, t.nc);
+    counted += n != 0;
+    miscounted += n != changed;
+    return n;
+}
+
 /* n single collector steps, or as many as are done before one is refused, and the answer that
- * jenturik_collect_many owes. */
+ * jenturik_collect_many owes: with the sum of the colours that each of them changed. */
 static answer one_by_one(size_t n) {
-    answer a = {0, JENTURIK_NAMED, 0, 0};
+    answer a = {0, JENTURIK_NAMED, 0, 0, 0};
     if (n == 0) {
         a.code = jenturik_schedule(LENT(&t), NULL, 0).code;
         if (a.code != 0) a.what = JENTURIK_REFUSED;
@@ -19,19 +46,20 @@ static answer one_by_one(size_t n) {
         jenturik_told told = jenturik_collect(LENT(&t));
         done += told.code == 0;
         a.done = done, a.what = told.what, a.code = told.code, a.node = told.node;
+        a.changed += compared(told.changed);
     }
     return a;
 }
 
 static int alike(size_t n, int high) {
-    lend(&t, &start, high);
+    lend_start(high);
     answer a = one_by_one(n);
     take_back(&t, &single);
     lend(&t, &start, high);
     jenturik_last b = jenturik_collect_many(LENT(&t), n);
     take_back(&t, &many);
     return a.done == b.done && a.what == b.what && a.code == b.code && a.node == b.node &&
-           same(&single, &many);
+           a.changed == b.changed && same(&single, &many);
 }
 
 /* A bad edge or colour, a gray node, or an invented number in the record. */
@@ -78,13 +106,17 @@ static void many_against_single(int damaged, uint32_t tables) {
 }
 
 /* The steps by their own calls, until one is refused; a kind above 4 has none and is refused
- * with 10. */
+ * with 10. The colours changed are the sum over the calls. */
 static jenturik_done by_own_calls(const uint32_t *steps, size_t count) {
-    jenturik_done d = {0, jenturik_schedule(LENT(&t), NULL, 0).code};
+    static const jenturik_told unreadable = {0, JENTURIK_UNREADABLE, 0, 0};
+    jenturik_done d = {0, jenturik_schedule(LENT(&t), NULL, 0).code, 0};
     while (d.code == 0 && d.done < count) {
         const uint32_t *s = steps + JENTURIK_STEP_WORDS * d.done;
         d.code = jenturik_schedule(LENT(&t), NULL, 0).code;
-        if (d.code == 0) d.code = s[0] > 4 ? JENTURIK_UNREADABLE : own_call(&t, s).code;
+        if (d.code != 0) break;
+        jenturik_told a = s[0] > 4 ? unreadable : own_call(&t, s);
+        d.changed += compared(a.changed);
+        d.code = a.code;
         d.done += d.code == 0;
     }
     return d;
@@ -112,13 +144,14 @@ static void schedules_against_single(uint32_t tables) {
                                        {0}};
             memcpy(steps + JENTURIK_STEP_WORDS * j, &one, sizeof one);
         }
-        lend(&t, &start, 0);
+        lend_start(0);
         jenturik_done a = by_own_calls(steps, count);
         take_back(&t, &single);
         lend(&t, &start, 1);
         jenturik_done b = jenturik_schedule(LENT(&t), steps, JENTURIK_STEP_WORDS * count);
         take_back(&t, &after);
-        wrong += a.done != b.done || a.code != b.code || !same(&single, &after);
+        wrong += a.done != b.done || a.code != b.code || a.changed != b.changed ||
+                 !same(&single, &after);
         done += b.done;
     }
     check(wrong == 0, "a schedule does what single steps do", "schedule", (long)wrong);
@@ -139,8 +172,14 @@ static void large_table(void) {
           (long)t.w[JENTURIK_CYCLES]);
 }
 
+/* Whether an answer is this one; a refusal changes no colour. */
 static int told(jenturik_told a, uint32_t what, uint32_t code, uint32_t node) {
-    return a.what == what && a.code == code && a.node == node;
+    return a.what == what && a.code == code && a.node == node && (code == 0 || a.changed == 0);
+}
+
+/* Whether a done call changed so many colours, told and by comparing. */
+static int changed(jenturik_told a, uint32_t count) {
+    return a.code == 0 && a.changed == count && recoloured(before, t.c, t.nc) == count;
 }
 
 /* One call of each kind on five nodes and one slot, each with what it must answer; refused ones
@@ -206,8 +245,8 @@ static void schedules(void) {
     make_fresh(&start, 5, 1);
     lend(&t, &start, 0);
     jenturik_done d = jenturik_schedule_steps(LENT(&t), steps, 4);
-    check(d.done == 2 && d.code == JENTURIK_SHADE_IS_OWED, "the third step is refused",
-          "schedule_steps", (long)d.done);
+    check(d.done == 2 && d.code == JENTURIK_SHADE_IS_OWED && d.changed == 2,
+          "the third step is refused", "schedule_steps", (long)d.done);
     take_back(&t, &after);
     lend(&t, &start, 0);
     jenturik_take(LENT(&t), 0, 0, 0, 0);
@@ -215,19 +254,22 @@ static void schedules(void) {
     take_back(&t, &single);
     check(same(&after, &single), "the earlier steps stand", "schedule_steps", 2);
     d = jenturik_schedule_steps(LENT(&t), steps + 3, 1);
-    check(d.done == 1 && d.code == 0, "a schedule of one step", "schedule_steps", 1);
+    check(d.done == 1 && d.code == 0 && d.changed == 0, "a schedule of one step", "schedule_steps",
+          1);
     for (size_t numbers = 1; numbers < 4 * JENTURIK_STEP_WORDS; numbers++) {
         lend(&t, &start, (int)(numbers % 2));
         d = jenturik_schedule(LENT(&t), (const uint32_t *)steps, numbers);
         take_back(&t, &after);
         if (numbers % JENTURIK_STEP_WORDS == 0) continue;
-        check(d.done == 0 && d.code == JENTURIK_UNREADABLE && same(&start, &after),
+        check(d.done == 0 && d.code == JENTURIK_UNREADABLE && d.changed == 0 &&
+                  same(&start, &after),
               "a ragged schedule", "schedule", (long)numbers);
     }
     lend(&t, &start, 1);
     d = jenturik_schedule(LENT(&t), NULL, 0);
     take_back(&t, &after);
-    check(d.done == 0 && d.code == 0 && same(&start, &after), "an empty schedule", "schedule", 0);
+    check(d.done == 0 && d.code == 0 && d.changed == 0 && same(&start, &after), "an empty schedule",
+          "schedule", 0);
 }
 
 /* A step of each kind with a word that is not 0 where it has no use, behind one that is done: 10,
@@ -244,13 +286,107 @@ static void unused_words(uint32_t kind) {
         lend(&t, &start, (int)(i % 2));
         jenturik_done d = jenturik_schedule_steps(LENT(&t), steps, 3);
         take_back(&t, &after);
-        check(d.done == 1 && d.code == JENTURIK_UNREADABLE && same(&single, &after),
+        check(d.done == 1 && d.code == JENTURIK_UNREADABLE && d.changed == 1 &&
+                  same(&single, &after),
               "an unused word of a step", "schedule", (long)kind);
         t.w[JENTURIK_LAST] = 0;
         d = jenturik_schedule_steps(LENT(&t), steps + 1, 1);
-        check(d.done == 0 && d.code == JENTURIK_BAD_RECORD, "code 2 comes before", "schedule",
-              (long)kind);
+        check(d.done == 0 && d.code == JENTURIK_BAD_RECORD && d.changed == 0, "code 2 comes before",
+              "schedule", (long)kind);
     }
+}
+
+/* A fresh table of 7 nodes and a slot, lent with node n in this colour, and the collector in this
+ * phase at it. */
+static void lend_coloured(uint32_t n, uint8_t colour, uint32_t phase) {
+    make_fresh(&start, 7, 1);
+    start.colour[n] = colour;
+    start.words[JENTURIK_PHASE] = phase, start.words[JENTURIK_I] = n;
+    start.words[JENTURIK_K] = phase == 1 ? 7 : 0;
+    lend_start((int)(n % 2));
+}
+
+/* The collector's steps at a node of each colour: how many colours they change. */
+static void colours_of_steps(void) {
+    for (uint8_t colour = 0; colour < 3; colour++) {
+        lend_coloured(2, colour, 0);
+        check(changed(jenturik_collect(LENT(&t)), colour == 0), "shades a slot", "collect", colour);
+        lend_coloured(2, colour, 1);
+        check(changed(jenturik_collect(LENT(&t)), 0), "looks at a node", "collect", colour);
+        lend_coloured(4, colour, 2), t.l[4] = 4;
+        check(changed(jenturik_collect(LENT(&t)), colour == 0), "shades on the left", "collect",
+              colour);
+        lend_coloured(4, colour, 3), t.r[4] = 4;
+        check(changed(jenturik_collect(LENT(&t)), colour == 0), "shades on the right", "collect",
+              colour);
+        lend_coloured(4, colour, 4);
+        check(changed(jenturik_collect(LENT(&t)), colour != 2), "makes a node black", "collect",
+              colour);
+    }
+    lend_coloured(4, 255, 4);
+    check(changed(jenturik_collect(LENT(&t)), 1), "makes a node black", "collect", 255);
+    lend_coloured(4, 2, 5);
+    check(changed(jenturik_collect(LENT(&t)), 1), "makes a node white", "collect", 2);
+    lend_coloured(4, 0, 5);
+    check(changed(jenturik_collect(LENT(&t)), 0), "appends a node", "collect", 0);
+    lend_coloured(4, 1, 5);
+    check(told(jenturik_collect(LENT(&t)), 0, JENTURIK_DAMAGED, 4), "refuses a gray node",
+          "collect", 1);
+}
+
+/* Take shades the first free node, 3, and the second, 4, which may be the same or none. Link
+ * changes no colour; its shade does. */
+static void colours_of_edits(void) {
+    for (uint8_t colour = 0; colour < 3; colour++) {
+        lend_coloured(3, colour, 1);
+        check(changed(jenturik_take(LENT(&t), 0, 0, 0, 0), 1 + (colour == 0)), "the first", "take",
+              colour);
+        lend_coloured(4, colour, 1);
+        check(changed(jenturik_take(LENT(&t), 0, 0, 0, 0), 1 + (colour == 0)), "the second", "take",
+              colour);
+        lend_coloured(3, colour, 1), t.l[3] = 3;
+        check(changed(jenturik_take(LENT(&t), 0, 0, 0, 0), colour == 0), "both are the same",
+              "take", colour);
+        lend_coloured(3, colour, 1), t.l[3] = 0, t.w[JENTURIK_LAST] = 3;
+        check(changed(jenturik_take(LENT(&t), 0, 0, 0, 0), colour == 0), "the only one", "take",
+              colour);
+        lend_coloured(2, colour, 1);
+        check(changed(jenturik_link(LENT(&t), 0, 0, 0, 0, 0, 0, 0), 0), "a link", "link", colour);
+        check(changed(jenturik_look(LENT(&t), 0, 1, 0), 0), "a look", "look", colour);
+        check(changed(jenturik_shade(LENT(&t)), colour == 0), "the shade owed", "shade", colour);
+        lend_coloured(0, colour, 1);
+        check(changed(jenturik_link(LENT(&t), 0, 0, 0, 0, 0, 1, 0), 0), "a link", "link", colour);
+        check(changed(jenturik_shade(LENT(&t)), colour == 0), "NIL is owed", "shade", colour);
+    }
+}
+
+/* In each cycle from a fresh table every node changes its colour three times, though it is white
+ * before and after: single steps, then as many at once, then as many in a schedule. */
+static void colours_of_cycles(uint32_t m, uint32_t r) {
+    static uint32_t steps[JENTURIK_STEP_WORDS * 2000];
+    uint32_t single_steps = 0;
+    make_fresh(&start, m, r);
+    lend_start(1);
+    while (t.w[JENTURIK_CYCLES] == 0) single_steps += compared(jenturik_collect(LENT(&t)).changed);
+    size_t took = t.w[JENTURIK_TOOK];
+    check(single_steps == 3 * m, "a cycle from a fresh table", "collect", (long)m);
+    jenturik_last a = jenturik_collect_many(LENT(&t), took);
+    check(a.changed == 3 * m, "a cycle from a fresh table", "collect_many", (long)m);
+    for (size_t i = 0; i < took; i++) steps[JENTURIK_STEP_WORDS * i] = 3;
+    jenturik_done d = jenturik_schedule(LENT(&t), steps, JENTURIK_STEP_WORDS * took);
+    check(d.changed == 3 * m, "a cycle from a fresh table", "schedule", (long)m);
+    check(t.w[JENTURIK_CYCLES] == 3 && recoloured(before, t.c, t.nc) == 0, "three whole cycles",
+          "all", (long)m);
+}
+
+/* Ten cycles at once change more colours than 16 bits can tell. */
+static void many_colours(void) {
+    make_fresh(&start, 4096, 64);
+    lend(&t, &start, 0);
+    while (t.w[JENTURIK_CYCLES] == 0) jenturik_collect_many(LENT(&t), 1);
+    jenturik_last a = jenturik_collect_many(LENT(&t), 10 * (size_t)t.w[JENTURIK_TOOK]);
+    check(a.code == 0 && t.w[JENTURIK_CYCLES] == 11 && a.changed == 10 * 3 * 4096,
+          "ten cycles from a fresh table", "collect_many", (long)a.changed);
 }
 
 /* Forbids writing what a call has for reading only: a write would end the program. */
@@ -315,6 +451,12 @@ int main(void) {
     every_code();
     nil_owed();
     schedules();
+    colours_of_steps();
+    colours_of_edits();
+    colours_of_cycles(3, 1), colours_of_cycles(9, 2), colours_of_cycles(40, 7);
+    many_colours();
+    check(counted > 100000, "calls that change colours", "all", counted);
+    check(miscounted == 0, "calls tell how many colours they changed", "all", miscounted);
     in_use_along_runs(2000);
     for (uint32_t kind = 0; kind < 6; kind++) unused_words(kind);
     reading_only();

@@ -2,8 +2,9 @@
  * through the library and writes what that mode writes, so that the two can be compared:
  *
  * - state --state: the step by its own call; then from the same state as a schedule of one step,
- *   and a collector step by jenturik_collect_many too, which must do and tell the same. A kind
- *   above 4 has no call of its own, only the schedule.
+ *   and a collector step by jenturik_collect_many too, which must do and tell the same. The
+ *   colours changed are also counted here. A kind above 4 has no call of its own, only the
+ *   schedule.
  * - state --run: jenturik_schedule.
  * - state --many: the lines of --run; each span of collector steps by jenturik_collect_many, the
  *   others by jenturik_schedule, one by one.
@@ -17,7 +18,7 @@
 #define _DEFAULT_SOURCE
 #include "lists.h"
 
-enum { STEPS = 1000, LINE = 1 << 20 };
+enum { STEPS = 2000, LINE = 1 << 20 };
 
 static char line[LINE], out[LINE];
 static char *in, *to;
@@ -123,7 +124,7 @@ static void by_many(jenturik_told told) {
     jenturik_last a = jenturik_collect_many(LENT(&t), 1);
     take_back(&t, &again);
     if (a.what != told.what || a.code != told.code || a.node != told.node ||
-        a.done != (told.code == 0))
+        a.changed != told.changed || a.done != (told.code == 0))
         fence_fail("collect_many tells another answer");
     if (!same(&after, &again)) fence_fail("collect_many leaves another state");
 }
@@ -134,7 +135,7 @@ static void state_line(void) {
     lend(&t, &given, high);
     jenturik_done d = follow(steps, 1);
     take_back(&t, &after);
-    jenturik_told told = {0, d.code, 0};
+    jenturik_told told = {0, d.code, 0, d.changed};
     if (steps[0] <= 4) {
         lend(&t, &given, high);
         told = own_call(&t, steps);
@@ -143,9 +144,12 @@ static void state_line(void) {
     }
     if (told.code != d.code || d.done != (d.code == 0))
         fence_fail("the call and the schedule tell different codes");
+    if (told.changed != d.changed || d.changed != changes(&given, &after))
+        fence_fail("another number of colours changed than is told");
     if (steps[0] == 3) by_many(told);
     put(told.code);
     put(told.node);
+    put(told.changed);
     put(did(steps[0], told));
     put_state(&after);
 }
@@ -163,6 +167,7 @@ static void put_run(jenturik_done d) {
     take_back(&t, &after);
     put(d.done);
     put(d.code);
+    put(d.changed);
     put_state(&after);
 }
 
@@ -185,11 +190,11 @@ static void many_line(void) {
         size_t n = span(all.done, count);
         if (n == 0) {
             jenturik_done d = follow(steps + JENTURIK_STEP_WORDS * all.done, 1);
-            all.done += d.done, all.code = d.code;
+            all.done += d.done, all.code = d.code, all.changed += d.changed;
         } else {
             jenturik_last a = jenturik_collect_many(LENT(&t), n);
             if ((a.done == n) != (a.code == 0)) fence_fail("collect_many stops without a code");
-            all.done += a.done, all.code = a.code;
+            all.done += a.done, all.code = a.code, all.changed += a.changed;
         }
     }
     put_run(all);
@@ -208,6 +213,7 @@ static void take_start(jenturik_told a) {
         fence_fail("a start tells that it did something else");
     if (a.code == 0 && a.node != after.words[JENTURIK_LAST])
         fence_fail("a start tells something else than the last free node");
+    if (a.changed != 0) fence_fail("a start tells colours that it changed");
 }
 
 static void fresh_line(void) {
@@ -241,6 +247,7 @@ static void in_use_line(void) {
     if (a.what != (a.code == 0 ? JENTURIK_COUNTED : JENTURIK_REFUSED))
         fence_fail("in use tells that it did something else");
     if (!same(&given, &after)) fence_fail("in use leaves another state");
+    if (a.changed != 0) fence_fail("in use tells colours that it changed");
     put(a.code);
     put(a.node);
 }

@@ -2,6 +2,7 @@
 #ifndef TABLE_H
 #define TABLE_H
 
+#include "colours.h"
 #include "fence.h"
 #include "jenturik.h"
 
@@ -64,6 +65,13 @@ static inline int same(const table *a, const table *b) {
            memcmp(a->left, b->left, 2 * a->lefts) == 0 &&
            memcmp(a->right, b->right, 2 * a->rights) == 0 &&
            memcmp(a->colour, b->colour, a->colours) == 0;
+}
+
+/* How many colours differ between a table before a call and after it. */
+static inline uint32_t changes(const table *before, const table *after) {
+    static uint8_t colour[MOST];
+    memcpy(colour, before->colour, before->colours);
+    return recoloured(colour, after->colour, after->colours);
 }
 
 static inline void lent_forbid(const lent *t, int forbid) {

@@ -37,7 +37,9 @@ static inline int trial_close(void) {
 static inline void make_fresh(table *s, uint32_t m, uint32_t r) {
     s->lefts = s->rights = s->colours = m;
     lend(&t, s, 1);
-    if (jenturik_fresh(LENT(&t), m, r).code != 0) fence_fail("no fresh table");
+    jenturik_told a = jenturik_fresh(LENT(&t), m, r);
+    if (a.code != 0) fence_fail("no fresh table");
+    if (a.changed != 0) fence_fail("fresh tells colours that it changed");
     take_back(&t, s);
 }
 

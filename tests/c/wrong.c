@@ -1,9 +1,9 @@
 /* Wrong libraries. The linker puts these before the true calls (--wrap); the number in the
  * environment's WRONG says what is spoilt, 0 nothing. tests/library runs the tests against each,
  * and each must be found. */
+#include "colours.h"
 #include "jenturik.h"
 #include <stdlib.h>
-#include <string.h>
 
 #define ARRAYS                                                                                     \
     uint16_t *left, size_t lefts, uint16_t *right, size_t rights, uint8_t *colour, size_t colours
@@ -40,10 +40,26 @@ static int wrong(int n) {
     return which == n;
 }
 
+static uint8_t before[16384]; /* the colours before a call */
+
+static void keep(const uint8_t *colour, size_t colours) {
+    if (colours != 0) memcpy(before, colour, colours);
+}
+
+/* The colours changed as a step tells them. */
+static jenturik_told count_wrongly(jenturik_told a) {
+    if (wrong(50)) a.changed = 1;                   /* always one */
+    if (wrong(51) && a.code != 0) a.changed = 1;    /* a refused step counts */
+    if (wrong(52) && a.changed == 2) a.changed = 1; /* whether, not how many */
+    return a;
+}
+
 jenturik_told __wrap_jenturik_fresh(ARRAYS, uint32_t *words, uint32_t nodes, uint32_t slots) {
     if (wrong(1)) slots &= 0xffff; /* takes the lower half of a number that is too large */
+    keep(colour, colours);
     jenturik_told a = __real_jenturik_fresh(TABLE, nodes, slots);
-    if (wrong(2) && a.code == 0) a.node = 0; /* tells no last free node */
+    if (wrong(53)) a.changed = recoloured(before, colour, colours); /* a start counts */
+    if (wrong(2) && a.code == 0) a.node = 0;                        /* tells no last free node */
     return a;
 }
 
@@ -55,9 +71,8 @@ static const uint32_t *cut(uint32_t *to, const uint32_t *from, size_t n) {
 
 jenturik_told __wrap_jenturik_load(ARRAYS, uint32_t *words, LISTS, uint32_t nodes, uint32_t slots) {
     static uint32_t cut_left[16384], cut_right[16384], was[JENTURIK_WORDS];
-    static uint8_t colours_were[16384];
     memcpy(was, words, sizeof was);
-    if (colours != 0) memcpy(colours_were, colour, colours);
+    keep(colour, colours);
     /* a list's length is not judged */
     if (wrong(20) && given_lefts > nodes) given_lefts = nodes;
     if (wrong(21) && given_rights > nodes) given_rights = nodes;
@@ -71,8 +86,9 @@ jenturik_told __wrap_jenturik_load(ARRAYS, uint32_t *words, LISTS, uint32_t node
     if (wrong(24) && a.code != 0) memcpy(words, was, sizeof was); /* the words stay when refused */
     if (wrong(25) && a.code > 1) left[2]++;                       /* writes, though refused */
     if (wrong(26) && a.code == 0) a.node = words[JENTURIK_LAST] = nodes - 1; /* last is M - 1 */
-    if (wrong(27) && a.code == 0) memcpy(colour, colours_were, colours);     /* the colours stay */
-    if (wrong(28) && a.code > 1) a.node = 0; /* a refusal's node is lost */
+    if (wrong(27) && a.code == 0) memcpy(colour, before, colours);           /* the colours stay */
+    if (wrong(28) && a.code > 1) a.node = 0;                        /* a refusal's node is lost */
+    if (wrong(54)) a.changed = recoloured(before, colour, colours); /* a start counts */
     return a;
 }
 
@@ -80,7 +96,7 @@ jenturik_told __wrap_jenturik_look(READ_ARRAYS, const uint32_t *words, PLACE) {
     if (wrong(3) && colours != 0)
         ((volatile uint8_t *)(uintptr_t)colour)[0] =
             colour[0]; /* writes, though it changes nothing */
-    return __real_jenturik_look(TABLE, slot, count, word);
+    return count_wrongly(__real_jenturik_look(TABLE, slot, count, word));
 }
 
 /* What In use is asked of, and which nodes were met. */
@@ -121,7 +137,8 @@ static int refused(const asked *q, uint32_t n, const uint8_t *colour) {
 
 /* In use where codes 1 and 2 are passed; where nothing is wrong, what the true one answers. */
 static jenturik_told count_in_use(asked *q, const uint8_t *colour) {
-    jenturik_told a = {JENTURIK_COUNTED, 0, 0}, damaged = {JENTURIK_REFUSED, JENTURIK_DAMAGED, 0};
+    jenturik_told a = {JENTURIK_COUNTED, 0, 0, 0},
+                  damaged = {JENTURIK_REFUSED, JENTURIK_DAMAGED, 0, 0};
     memset(q->met, 0, sizeof q->met);
     for (uint32_t n = 2; n < q->r + 2; n++) meet(q, n);
     for (uint32_t n = 0; n < q->m; n++)
@@ -151,6 +168,7 @@ jenturik_told __wrap_jenturik_in_use(READ_ARRAYS, const uint32_t *words) {
         ((volatile uint32_t *)(uintptr_t)words)[JENTURIK_WORDS - 1] = words[JENTURIK_WORDS - 1];
     if (wrong(44) && a.code == 7) a.node = 0;              /* a refusal's node is lost */
     if (wrong(45) && a.code == 0) a.what = JENTURIK_NAMED; /* tells another deed */
+    if (wrong(55) && a.code == 0) a.changed = a.node;      /* the number told twice */
     return a;
 }
 
@@ -160,54 +178,95 @@ jenturik_told __wrap_jenturik_link(EDGES_ARRAYS, uint32_t *words, PLACE, uint32_
     if (wrong(4) && a.code == 2) words[JENTURIK_OWES] = 0; /* mends the record that it refuses */
     if (wrong(5) && a.code == 0 && a.node == 0)
         words[JENTURIK_OWES] = 0; /* NIL owed taken for nothing owed */
-    return a;
+    if (wrong(56) && a.code == 0) a.changed = colour[a.node] == 0; /* the shade owed counts */
+    return count_wrongly(a);
 }
 
 jenturik_told __wrap_jenturik_shade(COLOUR_ARRAYS, uint32_t *words) {
     if (wrong(6)) words[JENTURIK_WORDS - 1] = 0; /* overlooks a word that has no use */
     jenturik_told a = __real_jenturik_shade(TABLE);
     if (wrong(7) && a.code == 0) colour[a.node] = 2; /* black instead of gray */
-    return a;
+    if (wrong(57) && a.code == 0) a.changed = 1;     /* shading a gray or black node counts */
+    if (wrong(58) && a.node == 0) a.changed = 0;     /* NIL does not count */
+    return count_wrongly(a);
 }
 
 jenturik_told __wrap_jenturik_take(ARRAYS, uint32_t *words, PLACE, uint32_t side) {
     uint32_t last = words[JENTURIK_LAST];
     jenturik_told a = __real_jenturik_take(TABLE, slot, count, word, side);
     if (wrong(8) && a.code == 0)
-        words[JENTURIK_LAST] = last;         /* last stays when the list runs out */
-    if (wrong(9) && a.code == 7) a.node = 0; /* a refusal's node is lost */
-    return a;
+        words[JENTURIK_LAST] = last;             /* last stays when the list runs out */
+    if (wrong(9) && a.code == 7) a.node = 0;     /* a refusal's node is lost */
+    if (wrong(59) && a.code == 0) a.changed = 2; /* always two */
+    return count_wrongly(a);
 }
 
 jenturik_told __wrap_jenturik_collect(ARRAYS, uint32_t *words) {
     jenturik_told a = __real_jenturik_collect(TABLE);
     if (wrong(10) && a.what == JENTURIK_APPENDED) left[lefts] = 0; /* writes behind the array */
     if (wrong(11) && a.what == JENTURIK_APPENDED)
-        a.what = JENTURIK_WHITENED; /* tells another deed */
-    return a;
+        a.what = JENTURIK_WHITENED;                                /* tells another deed */
+    if (wrong(60) && a.what == JENTURIK_SHADED) a.changed = 1;     /* a gray or black node counts */
+    if (wrong(61) && a.what == JENTURIK_MADE_BLACK) a.changed = 1; /* a black node counts */
+    if (wrong(62) && a.what == JENTURIK_APPENDED) a.changed = 1;   /* a white node counts */
+    if (wrong(63) && a.what == JENTURIK_WHITENED) a.changed = 0;   /* a black one does not */
+    return count_wrongly(a);
+}
+
+/* The last step by itself; tells the colours that it changed. */
+static jenturik_last the_last(ARRAYS, uint32_t *words, size_t n) {
+    jenturik_last a = __real_jenturik_collect_many(TABLE, n == 0 ? 0 : n - 1), b;
+    if (n == 0 || a.code != 0) return a;
+    b = __real_jenturik_collect_many(TABLE, 1);
+    b.done += a.done;
+    return b;
 }
 
 jenturik_last __wrap_jenturik_collect_many(ARRAYS, uint32_t *words, size_t n) {
+    keep(colour, colours);
+    if (wrong(69)) return the_last(TABLE, n); /* the last step's colours alone */
     jenturik_last a = __real_jenturik_collect_many(
         TABLE, wrong(12) && n > 500 ? n - 1 : n); /* one step too few of many */
     if (wrong(12) && n > 500 && a.code == 0) a.done++;
-    if (wrong(13) && a.code != 0 && a.done > 0) a.code = 0; /* a refusal is not told */
+    if (wrong(13) && a.code != 0 && a.done > 0) a.code = 0;         /* a refusal is not told */
+    if (wrong(64)) a.changed = (uint32_t)a.done;                    /* the steps are told */
+    if (wrong(65)) a.changed = recoloured(before, colour, colours); /* once, if at all */
+    if (wrong(66) && a.code != 0) a.changed = 0; /* nothing where one step is refused */
+    if (wrong(67) && a.code != 0) a.changed++;   /* the refused step counts */
+    if (wrong(68)) a.changed &= 0xffff;          /* 16 bits */
     return a;
 }
 
 /* A copy of the steps, their unused words 0. */
 static const uint32_t *without_unused(const uint32_t *steps, size_t numbers) {
-    static uint32_t copy[JENTURIK_STEP_WORDS * 1000];
+    static uint32_t copy[JENTURIK_STEP_WORDS * 2000];
     const size_t used = offsetof(jenturik_step, unused) / sizeof(uint32_t);
     for (size_t i = 0; i < numbers; i++) copy[i] = i % JENTURIK_STEP_WORDS < used ? steps[i] : 0;
     return copy;
+}
+
+/* The steps one by one; tells the colours that the last one changed. */
+static jenturik_done the_last_done(ARRAYS, uint32_t *words, const uint32_t *steps, size_t numbers) {
+    jenturik_done all = __real_jenturik_schedule(TABLE, steps, numbers % JENTURIK_STEP_WORDS);
+    while (all.code == 0 && all.done < numbers / JENTURIK_STEP_WORDS) {
+        jenturik_done d = __real_jenturik_schedule(TABLE, steps + JENTURIK_STEP_WORDS * all.done,
+                                                   JENTURIK_STEP_WORDS);
+        all.done += d.done, all.code = d.code, all.changed = d.changed;
+    }
+    return all;
 }
 
 jenturik_done __wrap_jenturik_schedule(ARRAYS, uint32_t *words, const uint32_t *steps,
                                        size_t numbers) {
     if (wrong(14)) numbers -= numbers % JENTURIK_STEP_WORDS; /* does the whole steps alone */
     if (wrong(16)) steps = without_unused(steps, numbers);   /* overlooks a step's unused words */
+    keep(colour, colours);
+    if (wrong(70)) return the_last_done(TABLE, steps, numbers); /* the last step's colours alone */
     jenturik_done d = __real_jenturik_schedule(TABLE, steps, numbers);
     if (wrong(15) && d.code == 10 && d.done > 0) d.code = 0; /* a kind above 4 ends it quietly */
+    if (wrong(71)) d.changed = (uint32_t)d.done;             /* the steps are told */
+    if (wrong(72)) d.changed = recoloured(before, colour, colours); /* once, if at all */
+    if (wrong(73) && d.code != 0) d.changed = 0; /* nothing where one step is refused */
+    if (wrong(74) && d.code != 0) d.changed++;   /* the refused step counts */
     return d;
 }

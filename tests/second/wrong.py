@@ -37,6 +37,7 @@ WRONG = [
 ]
 
 BOTH, TEXT, LISTS, ASKED = ("", "--load"), ("",), ("--load",), ("--inuse",)
+STEPS, ONE, RUN = ("--state", "--run"), ("--state",), ("--run",)
 
 # Loaders: the same, and the modes in which the fault can show.
 LOADERS = [
@@ -235,4 +236,79 @@ ASKERS = [
      "if let Err(refusal) = record.judge(table) { if refusal.code == 2 {"
      " nodes_in_use(table, &crate::record::begin(record.m, record.r, 1))?; }"
      " return Err(refusal); }", ASKED),
+]
+
+# Colours changed: what is wrong, what is put for the number, and the modes. It may use
+# `changed`, the colours `before`, the node answered (0 if refused), and what was done: 0 to 5
+# as `--state` tells it, 9 a refusal.
+NUMBERS = [
+    ("a shade of a gray node counted",
+     "changed + ((did == 1 || step.kind == SHADE && did == 0) && before[node] == 1) as usize",
+     STEPS),
+    ("a shade of a black node counted",
+     "changed + ((did == 1 || step.kind == SHADE && did == 0) && before[node] == 2) as usize",
+     STEPS),
+    ("Take counts always two", "if take { 2 } else { changed }", STEPS),
+    ("Take counts always one", "if take { 1 } else { changed }", STEPS),
+    ("Take with g = f counts two",
+     "if take && table.edges[0][1] as usize == node { 2 * changed } else { changed }", ONE),
+    ("Take with g = 0 counts NIL",
+     "changed + (take && table.edges[0][1] == 0 && before[0] == 0) as usize", STEPS),
+    ("Take counts f alone",
+     "if take { (before[node] != table.colours[node]) as usize } else { changed }", STEPS),
+    ("Take counts g alone",
+     "if take { changed - (before[node] != table.colours[node]) as usize } else { changed }",
+     STEPS),
+    ("Take of a gray f counts it",
+     "changed + (take && before[node] == 1) as usize", STEPS),
+    ("Take of a gray g counts it",
+     "changed + (take && table.edges[0][1] != 0 && before[table.edges[0][1] as usize] == 1)"
+     " as usize", STEPS),
+    ("Black counts always one", "if did == 3 { 1 } else { changed }", ONE),
+    ("Black counts a gray node alone",
+     "if did == 3 { (before[node] == 1) as usize } else { changed }", ONE),
+    ("Black not counted", "if did == 3 { 0 } else { changed }", STEPS),
+    ("Append of a black node not counted", "if did == 4 { 0 } else { changed }", STEPS),
+    ("Append of a white node counted", "if did == 5 { 1 } else { changed }", STEPS),
+    ("Roots, Left and Right count always one", "if did == 1 { 1 } else { changed }", STEPS),
+    ("Roots, Left and Right not counted", "if did == 1 { 0 } else { changed }", STEPS),
+    ("Scan counted", "changed + (did == 2) as usize", STEPS),
+    ("Shade counts always one",
+     "if step.kind == SHADE && did == 0 { 1 } else { changed }", STEPS),
+    ("Shade not counted", "if step.kind == SHADE { 0 } else { changed }", STEPS),
+    ("Link counts the shade that is owed",
+     "changed + (step.kind == LINK && did == 0 && before[node] == 0) as usize", STEPS),
+    ("Look counts a white node",
+     "changed + (step.kind == LOOK && did == 0 && before[node] == 0) as usize", STEPS),
+    ("NIL's colour not counted",
+     "changed - (!before.is_empty() && before[0] != table.colours[0]) as usize", STEPS),
+    ("a step that is refused counts one", "if did == 9 { 1 } else { changed }", ONE),
+    ("a step that is refused for damage counts one",
+     "if did == 9 && node > 0 { 1 } else { changed }", ONE),
+    ("whether a colour changed, in place of how many", "changed.min(1)", STEPS),
+    ("the steps of the editor alone", "if did == 0 { changed } else { 0 }", STEPS),
+    ("the steps of the collector alone", "if did == 0 { 0 } else { changed }", STEPS),
+]
+
+# As the first ones.
+COUNTERS = [
+    (name, "step.rs", "    (reply, changed)",
+     "    let (node, did) = match &reply { Ok(answer) => (answer.node, answer.did as usize),"
+     " Err(refusal) => (refusal.node, 9) }; let take = step.kind == TAKE && did == 0;"
+     " let changed = " + number + "; (reply, changed)", modes) for name, number, modes in NUMBERS
+] + [
+    ("the sum is the last step's number", "step.rs", "sum += changed;", "sum = changed;", RUN),
+    ("the sum is that of the colours that differ in the end", "step.rs",
+     "let mut sum = 0;\n    for (done, step) in steps.iter().enumerate() {\n"
+     "        let (reply, changed) = do_and_count(table, record, step);",
+     "let mut sum = 0; let first = table.colours.clone(); for (done, step) in"
+     " steps.iter().enumerate() { let (reply, _) = do_and_count(table, record, step); sum = 0;"
+     " let changed = first.iter().zip(&table.colours).filter(|(a, b)| a != b).count();", RUN),
+    ("the sum lost where a step is refused", "step.rs",
+     "return (done, refusal.code, sum);", "return (done, refusal.code, 0);", RUN),
+    ("the step that is refused in the sum", "step.rs",
+     "return (done, refusal.code, sum);", "return (done, refusal.code, sum + 1);", RUN),
+    ("the sum cut to 8 bits", "step.rs", "sum += changed;", "sum = (sum + changed) & 255;", RUN),
+    ("the sum counts steps that changed something", "step.rs",
+     "sum += changed;", "sum += changed.min(1);", RUN),
 ]

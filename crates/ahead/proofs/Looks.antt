@@ -12,6 +12,7 @@ use Rattle.rules.specs.Table.{State, state, did, colourOf}
 use Rattle.rules.specs.Records.{withPhase, withSteps, moved, next}
 use Rattle.rules.specs.Check.{bound}
 use Rattle.rules.specs.Collector.{scanStep, phaseStep}
+use Rattle.rules.proofs.Changes.{unchanged}
 use Rattle.rules.proofs.Checked.{good, inside}
 use Rattle.skim.specs.Stops.{stop, NoStop}
 use Rattle.skim.proofs.Counts.{still}
@@ -50,13 +51,13 @@ module _ (l r c : List ℕ) (x : Record) (i k : ℕ) (p : Passes (state l r c x)
       rw (mod-add-mod, a, b, s)
 
   pub looks : (d : ℕ) → d < k → x .steps + d < bound 2 (x .m) (x .r) → NoStop c (x .m) i d
-      → Leads (state l r c x) d (state l r c (leapt x i k d))
-  looks zero q b m = rw leapt-none (stay _ 0 refl p)
+      → Leads (state l r c x) d 0 (state l r c (leapt x i k d))
+  looks zero q b m = rw leapt-none (stay _ 0 0 refl refl p)
   looks (suc d) q b m =
       let g = good _ _ _ x (p .code) in
       let t = state l r c (leapt x i k d) in
       let w =
       looks d (omega arith) (omega arith) (record { none = λ j z. m .none j (omega arith) }) in
       let n = look t ((i + d) % x .m) (k - d) (m .none d (omega arith)) (omega arith) in
-      then _ t _ d 1 _ (omega arith) w (rw (leapt-more d) at
-      (step-on t _ (w .passes) n refl (g .blackened) (omega arith)))
+      then _ t _ d 1 _ 0 0 0 (omega arith) refl w (rw (leapt-more d) at
+      (step-on t _ 0 (w .passes) n refl (g .blackened) (omega arith) (unchanged c)))

@@ -15,13 +15,14 @@ use Rattle.base.proofs.Tests.{every-skip, every-last, every-none}
 use Rattle.rules.specs.declared.Record.{Record}
 use Rattle.rules.specs.declared.Phase.{Phase}
 use Rattle.rules.specs.declared.Phase.the-variants.{Roots, Scan, Left, Right, Black, Append}
-use Rattle.rules.specs.Table.{State, Outcome, cleared, shadeIn}
+use Rattle.rules.specs.Table.{State, Outcome, cleared}
 use Rattle.rules.specs.Records.{withLast, moved, marked, rescan, afterAppend}
 use Rattle.rules.specs.Check.{sizeOk, phaseOk, owedOk, lastOk, bound, cycleOk, toldOk, countsOk}
 use Rattle.rules.specs.Check.{recordOk, checkOf, check}
 use Rattle.rules.specs.Collector.{shadeStep, afterRoots, scanStep, edgeStep, blackStep, append}
 use Rattle.rules.specs.Collector.{appendWhite, appendStep, phaseStep}
 use Rattle.rules.specs.Facts.{Tells, InRange}
+use Rattle.rules.proofs.Changes.{shaded-length}
 use Rattle.rules.proofs.Checked.{passes, inside, tells, tells-ok}
 use Rattle.rules.proofs.Rows.{edge-lengths, cleared-lengths, clear-colour}
 
@@ -42,11 +43,6 @@ pub record Kept (s : State) (o : Outcome) : Type 0 where
   pub rec : Steady (count s) (s .rec) (o .state .rec)
   pub edges : map length (o .state .edges) ≡ map length (s .edges)
   pub colours : length (o .state .colour) ≡ length (s .colour)
-
-shaded-length : (c : List ℕ) (n : ℕ) → length (shadeIn c n) ≡ length c
-unfolding shadeIn
-shaded-length c n =
-    split (λ (l : List ℕ). length l ≡ length c) _ _ _ (λ h. length-set c n 1) (λ h. refl)
 
 or-no : (a b : Bool) → a || b ≡ false → a ≡ false
 or-no true b e = e

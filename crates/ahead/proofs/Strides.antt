@@ -12,8 +12,11 @@ use Rattle.rules.specs.Facts.{manySteps}
 use Rattle.rules.specs.Check.{sizeOk, bound, cycleOk}
 use Rattle.rules.specs.Collector.{phaseStep, collect}
 use Rattle.rules.specs.Steps.{step, collecting, codeOf}
+use Rattle.rules.specs.Schedules.{collects}
+use Rattle.rules.specs.Changes.{differing, changes, changesAll}
 use Rattle.rules.proofs.Checked.{passes, good}
 use Rattle.rules.proofs.Sizes.{square}
+use Rattle.rules.proofs.Sums.{sum-done, most-collects}
 use Rattle.rules.proofs.Laws.{step-collecting, unless-done}
 use Rattle.ahead.specs.Leads.{more, Passes, Room, Leads}
 use Rattle.ahead.proofs.Steady.{count, Kept, kept, passes-again}
@@ -39,8 +42,8 @@ sized l k c x p =
     }
 
 -- no step
-pub stay : (s : State) (d : ℕ) → d ≡ 0 → Passes s → Leads s d s
-stay s d h p =
+pub stay : (s : State) (d v : ℕ) → d ≡ 0 → v ≡ 0 → Passes s → Leads s d v s
+stay s d v h k p =
     record {
       m = refl;
       r = refl;
@@ -48,11 +51,13 @@ stay s d h p =
       same =
           λ n e a. let z : e + 0 ≡ e = omega arith in let y : 0 + suc n ≡ suc n = omega arith in
           rw (h, z, y);
+      sum = λ n. let y : 0 + n ≡ n = omega arith in rw (h, k, y) (omega arith);
     }
 
 -- a stride and the stride after it
-pub then : (s t u : State) (d e f : ℕ) → f ≡ d + e → Leads s d t → Leads t e u → Leads s f u
-then s t u d e f h p q =
+pub then : (s t u : State) (d e f v w z : ℕ) → f ≡ d + e → z ≡ v + w → Leads s d v t → Leads t e w u
+    → Leads s f z u
+then s t u d e f v w z h g p q =
     record {
       m = q .m ∙ p .m;
       r = q .r ∙ p .r;
@@ -62,12 +67,21 @@ then s t u d e f h p q =
           let j : suc (e + n) ≡ e + suc n = omega arith in
           let k : b + f ≡ b + d + e = omega arith in
           rw (i, k) (p .same (e + n) b a ∙ rw j (q .same n (b + d) a));
+      sum = λ n.
+          let i : f + n ≡ d + (e + n) = omega arith in
+          let a = p .sum (e + n) in
+          let b = q .sum n in rw i (omega arith);
     }
 
 -- the same where the steps are counted from a start
-pub on : (s t u : State) (d e f : ℕ) → d ≤ e → e ≤ f → Leads s (e - d) t → Leads t (f - e) u
-    → Leads s (f - d) u
-on s t u d e f h k = then s t u (e - d) (f - e) (f - d) (omega arith)
+pub on : (s t u : State) (d e f v w z : ℕ) → d ≤ e → e ≤ f → v ≤ w → w ≤ z
+    → Leads s (e - d) (w - v) t → Leads t (f - e) (z - w) u → Leads s (f - d) (z - v) u
+on s t u d e f v w z h k i j =
+    then s t u (e - d) (f - e) (f - d) (w - v) (z - w) (z - v) (omega arith) (omega arith)
+
+-- a step changes at most one colour
+pub few : (s t : State) (d v : ℕ) → Leads s d v t → v ≤ d
+few s t d v p = let a = p .sum 0 in let b = most-collects (d + 0) s in omega arith
 
 pub fewer : (x : Record) (cap d : ℕ) → d ≤ cap → Room x cap → Room x d
 fewer x cap d h b = let z = b .steps in record { steps = omega arith }
@@ -96,12 +110,23 @@ any-answer : (s : State) (n e : ℕ) (a b : Answer) → more (suc n) e a s ≡ m
 unfolding more
 any-answer s n e a b = refl
 
+-- a step that is done, with the colours that it changes, and the steps after it
+pub sum-on : (s : State) (o : Outcome) (n v : ℕ) → o ≡ step collecting s → codeOf (o .answer) ≡ 0
+    → v ≡ differing (s .colour) (o .state .colour)
+    → changesAll (collects (1 + n)) s ≡ v + changesAll (collects n) (o .state)
+unfolding collects changes
+sum-on s o n v w z e =
+    let i : 1 + n ≡ suc n = omega arith in
+    let y : codeOf (step collecting s .answer) ≡ 0 = rw (← w) z in
+    rw (i, e, w) (sum-done collecting (collects n) s y)
+
 -- a step that is done and leaves the two counts within their limits
-pub step-on : (s : State) (o : Outcome) → Passes s → o ≡ phaseStep s (s .rec .phase)
+pub step-on : (s : State) (o : Outcome) (v : ℕ) → Passes s → o ≡ phaseStep s (s .rec .phase)
     → codeOf (o .answer) ≡ 0 → o .state .rec .blackened ≤ s .rec .m
-    → o .state .rec .steps < bound (count s) (s .rec .m) (s .rec .r) → Leads s 1 (o .state)
+    → o .state .rec .steps < bound (count s) (s .rec .m) (s .rec .r)
+    → v ≡ differing (s .colour) (o .state .colour) → Leads s 1 v (o .state)
 unfolding cycleOk
-step-on s o p w z k l =
+step-on s o v p w z k l c =
     let h : Kept s o = rw w (kept s (p .code)) in
     let b : o .state .rec .blackened ≤ o .state .rec .m = rw (h .rec .m) k in
     record {
@@ -116,4 +141,5 @@ step-on s o p w z k l =
           let i : 1 + suc n ≡ suc (suc n) = omega arith in
           rw i (done-on s o (suc n) e a (w ∙ step-is s p) z
           ∙ any-answer (o .state) n (e + 1) (o .answer) a);
+      sum = λ n. sum-on s o n v (w ∙ step-is s p) z c;
     }

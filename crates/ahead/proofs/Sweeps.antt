@@ -12,6 +12,8 @@ use Rattle.rules.specs.Table.{State, state, did, withEdge, cleared, shadeIn}
 use Rattle.rules.specs.Records.{withLast, moved, afterAppend}
 use Rattle.rules.specs.Check.{bound}
 use Rattle.rules.specs.Collector.{shadeStep, afterRoots, append, appendWhite, appendStep, phaseStep}
+use Rattle.rules.specs.Changes.{differing}
+use Rattle.rules.proofs.Changes.{unchanged, one-whitened}
 use Rattle.rules.proofs.Checked.{good}
 use Rattle.ahead.specs.Leads.{Passes, Leads}
 use Rattle.ahead.proofs.Strides.{step-on}
@@ -32,30 +34,32 @@ module _ (l r c : List ℕ) (x : Record) (i : ℕ) (p : Passes (state l r c x))
   s = state l r c x
 
   -- a root is shaded
-  pub roots : x .phase ≡ Roots i → i ≤ x .r → getD c i 0 ≤ 2
-      → Leads s 1 (state l r (shadeIn c i) (moved x (Roots (i + 1))))
+  pub roots : (n : ℕ) → x .phase ≡ Roots i → i ≤ x .r → getD c i 0 ≤ 2
+      → n ≡ differing c (shadeIn c i)
+      → Leads s 1 n (state l r (shadeIn c i) (moved x (Roots (i + 1))))
   unfolding phaseStep shadeStep
-  roots h q v =
+  roots n h q v e =
       let g = good _ _ _ x (p .code) in
       let o = did (Shaded i) (state l r (shadeIn c i) x) (moved x (Roots (i + 1))) in
       let w : o ≡ phaseStep s (Roots i) = pick-no _ _ _ _ (lt-no 2 (getD c i 0) v)
       (rw (rootward (x .m) (x .r) i q)) in
-      step-on s o p (w ∙ ap (phaseStep s) (sym h)) refl (g .blackened) b
+      step-on s o n p (w ∙ ap (phaseStep s) (sym h)) refl (g .blackened) b e
 
   -- a black node becomes white
   pub whitens : x .phase ≡ Append i → i + 1 < x .m → getD c i 0 ≡ 2
-      → Leads s 1 (state l r (set c i 0) (moved x (Append (i + 1))))
+      → Leads s 1 1 (state l r (set c i 0) (moved x (Append (i + 1))))
   unfolding phaseStep appendStep
   whitens h q v =
       let g = good _ _ _ x (p .code) in
       let o = did (Whitened i) (state l r (set c i 0) x) (moved x (Append (i + 1))) in
       let w : o ≡ phaseStep s (Append i) = pick-yes _ _ _ _ (eq-yes _ _ v) (rw (onward x i q)) in
-      step-on s o p (w ∙ ap (phaseStep s) (sym h)) refl (g .blackened) b
+      step-on s o 1 p (w ∙ ap (phaseStep s) (sym h)) refl (g .blackened) b
+      (one-whitened c i (omega (arith, g .colours)) v)
 
   -- a white node goes to the end of the free list
   pub appends : x .phase ≡ Append i → i + 1 < x .m → getD c i 0 ≡ 0 → x .r + 1 < i
       → (i ≡ x .last → ⊥)
-      → Leads s 1 (state (set (set l i 0) (x .last) i) (set r i 0) c
+      → Leads s 1 0 (state (set (set l i 0) (x .last) i) (set r i 0) c
       (moved (withLast x i) (Append (i + 1))))
   unfolding phaseStep appendStep appendWhite append withEdge cleared
   appends h q v root last =
@@ -67,4 +71,4 @@ module _ (l r c : List ℕ) (x : Record) (i : ℕ) (p : Passes (state l r c x))
       pick-no _ _ _ _ (eq-no (getD c i 0) 2 (λ z. omega arith)) (pick-yes _ _ _ _ (eq-yes _ _ v)
       (pick-no _ _ _ _ (or-skip _ _ _ (le-no _ _ root) (eq-no _ _ last))
       (rw (onward (withLast x i) i q)))) in
-      step-on s o p (w ∙ ap (phaseStep s) (sym h)) refl (g .blackened) b
+      step-on s o 0 p (w ∙ ap (phaseStep s) (sym h)) refl (g .blackened) b (unchanged c)

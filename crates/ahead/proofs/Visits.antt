@@ -17,7 +17,9 @@ use Rattle.rules.specs.Table.{State, state, did, colourOf, edgeOf, shadeIn, sha
 use Rattle.rules.specs.Records.{withSteps, moved, rescan}
 use Rattle.rules.specs.Check.{bound}
 use Rattle.rules.specs.Collector.{shadeStep, scanStep, edgeStep, blackStep, phaseStep}
-use Rattle.rules.proofs.Checked.{good}
+use Rattle.rules.specs.Changes.{differing}
+use Rattle.rules.proofs.Changes.{unchanged, one-blackened, shaded-length, two-shaded}
+use Rattle.rules.proofs.Checked.{good, inside}
 use Rattle.ahead.specs.Leads.{Passes, Leads, CanShade}
 use Rattle.ahead.proofs.Strides.{then, step-on}
 
@@ -54,12 +56,33 @@ still-can-shade m c e f v h = record {
     go true q = let z = eqb-true e f q in rw (← z, getD-set-same c e 1 0 v) (omega arith)
     go false q = rw (getD-set-other c e f 1 0 (λ z. eqb-false e f q (sym z))) (h .colour)
 
+-- shading leaves gray gray
+pub gray-kept : (c : List ℕ) (n i : ℕ) → getD c i 0 ≡ 1 → getD (shadeIn c n) i 0 ≡ 1
+unfolding shadeIn
+gray-kept c n i h =
+    split (λ (a : List ℕ). getD a i 0 ≡ 1) _ _ _
+    (λ q. rw (getD-set-other c n i 1 0 (λ z. absurd (differ z (eqb-true _ _ q)))) h) (λ q. h)
+  where
+    differ : i ≡ n → getD c n 0 ≡ 0 → ⊥
+    differ z w = let y : getD c i 0 ≡ 0 = rw z w in omega arith
+
 module _ (l r c : List ℕ) (x : Record) (i k : ℕ) (p : Passes (state l r c x))
     (h : x .phase ≡ Scan i k) where
+  -- a gray node turns black, beside the colours that shading changes
+  one-black : (e f : ℕ) → getD c i 0 ≡ 1
+      → 1 ≡ differing (shadeIn (shadeIn c e) f) (set (shadeIn (shadeIn c e) f) i 2)
+  one-black e f gray =
+      let g = good _ _ _ x (p .code) in
+      let s = rw h at (inside _ _ x (p .code)) in
+      let m = shaded-length c e in
+      let n = shaded-length (shadeIn c e) f in
+      let v = gray-kept (shadeIn c e) f i (gray-kept c e i gray) in
+      one-blackened _ i (omega (arith, s .0, g .colours)) (λ z. omega arith)
+
   pub visits : getD c i 0 ≡ 1 → CanShade (x .m) c (getD l i 0) → CanShade (x .m) c (getD r i 0)
       → x .steps + 4 < bound 2 (x .m) (x .r) → x .blackened < x .m
-      → Leads (state l r c x) 4 (state l r (set (shadeIn (shadeIn c (getD l i 0)) (getD r i 0)) i 2)
-      (visited x i))
+      → Leads (state l r c x) 4 (differing c (shadeIn (shadeIn c (getD l i 0)) (getD r i 0)) + 1)
+      (state l r (set (shadeIn (shadeIn c (getD l i 0)) (getD r i 0)) i 2) (visited x i))
   unfolding phaseStep blackStep edgeOf
   visits gray left right room dark =
       let g = good _ _ _ x (p .code) in
@@ -70,20 +93,25 @@ module _ (l r c : List ℕ) (x : Record) (i k : ℕ) (p : Passes (state l r c x)
       let y3 = moved y2 (Black i) in
       let c1 = shadeIn c e in
       let c2 = shadeIn c1 f in
+      let v1 = differing c c1 in
+      let v2 = differing c1 c2 in
       let a1 =
-      step-on (state l r c x) (did (Looked i) (state l r c x) y1) p
+      step-on (state l r c x) (did (Looked i) (state l r c x) y1) 0 p
       (look-gray (state l r c x) i k gray ∙ ap (phaseStep (state l r c x)) (sym h)) refl
-      (g .blackened) (omega arith) in
+      (g .blackened) (omega arith) (unchanged c) in
       let a2 =
-      step-on (state l r c y1) _ (a1 .passes) (edge-on (state l r c y1) i e (Right i) left) refl
-      (g .blackened) (omega arith) in
+      step-on (state l r c y1) _ v1 (a1 .passes) (edge-on (state l r c y1) i e (Right i) left) refl
+      (g .blackened) (omega arith) refl in
       let a3 =
-      step-on (state l r c1 y2) _ (a2 .passes)
+      step-on (state l r c1 y2) _ v2 (a2 .passes)
       (edge-on (state l r c1 y2) i f (Black i)
       (still-can-shade _ c e f (omega (arith, g, left)) right)) refl (g .blackened) (omega arith)
-      in
+      refl in
       let a4 =
-      step-on (state l r c2 y3) (did (Blackened i) (state l r (set c2 i 2) y3) (rescan y3 i))
-      (a3 .passes) refl refl (omega arith) (omega arith) in
+      step-on (state l r c2 y3) (did (Blackened i) (state l r (set c2 i 2) y3) (rescan y3 i)) 1
+      (a3 .passes) refl refl (omega arith) (omega arith) (one-black e f gray) in
       let z : x .steps + 1 + 1 + 1 + 1 ≡ x .steps + 4 = omega arith in
-      rw (z) at (then _ _ _ 1 3 _ refl a1 (then _ _ _ 1 2 _ refl a2 (then _ _ _ 1 1 _ refl a3 a4)))
+      let two = two-shaded c e f (omega (arith, g, left)) (omega (arith, g, right)) in
+      let all : differing c c2 + 1 ≡ 0 + (v1 + (v2 + 1)) = omega arith in
+      rw (z) at (then _ _ _ 1 3 _ 0 _ _ refl all a1
+      (then _ _ _ 1 2 _ v1 _ _ refl refl a2 (then _ _ _ 1 1 _ v2 1 _ refl refl a3 a4)))

@@ -8,6 +8,8 @@ use Rattle.base.specs.Choice.{pick}
 use Rattle.rules.specs.Table.{State}
 use Rattle.rules.specs.Check.{bound, check}
 use Rattle.rules.specs.Steps.{step, collecting, codeOf}
+use Rattle.rules.specs.Schedules.{collects}
+use Rattle.rules.specs.Changes.{changesAll}
 use Rattle.rules.specs.declared.Answer.{Answer}
 use Rattle.rules.specs.declared.Record.{Record}
 
@@ -36,12 +38,13 @@ pub record Passes (s : State) : Type 0 where
 pub record Room (x : Record) (cap : ℕ) : Type 0 where
   pub steps : x .steps + cap < bound 2 (x .m) (x .r)
 
--- d steps that are done lead from s to t
-pub record Leads (s : State) (d : ℕ) (t : State) : Type 0 where
+-- d steps that are done lead from s to t, and change v colours in all
+pub record Leads (s : State) (d v : ℕ) (t : State) : Type 0 where
   pub m : t .rec .m ≡ s .rec .m
   pub r : t .rec .r ≡ s .rec .r
   pub passes : Passes t
   pub same : (n e : ℕ) (a : Answer) → more (d + suc n) e a s ≡ more (suc n) (e + d) a t
+  pub sum : (n : ℕ) → changesAll (collects (d + n)) s ≡ v + changesAll (collects n) t
 
 -- a good edge to a node with a good colour
 pub record CanShade (m : ℕ) (c : List ℕ) (e : ℕ) : Type 0 where

@@ -2,9 +2,10 @@
 use rules::Record;
 ghost use Prim.Native.Nat.{_≤_};
 
-// Steps made, and the record after them.
+// Steps made, how many colours they changed in all, and the record after them.
 pub struct Ahead {
     pub d: usize,
+    pub changed: usize,
     pub rec: Record,
 }
 

@@ -9,6 +9,7 @@ ghost use Prim.Native.Nat.{_<_, _≤_};
 ghost use Rattle.rules.specs.Table.{refused, state};
 ghost use Rattle.rules.specs.Check.{bound};
 ghost use Rattle.rules.specs.Schedules.{schedule, collects};
+ghost use Rattle.rules.specs.Changes.{changesAll};
 ghost use Rattle.rules.specs.declared.Answer.the-variants.{Named};
 ghost use Rattle.ahead.specs.Leads.{lasted, more, Passes, Room, Leads};
 ghost use Rattle.batch.specs.Last.{many, lastAnswer};
@@ -16,11 +17,12 @@ ghost use Rattle.batch.specs.StrideAndStep.{StrideAndStep};
 ghost use Rattle.base.specs.Lent.{is};
 ghost use Rattle.rules.specs.Lent.{given};
 
-// How many steps were done, what the last one answered, or the one that was refused, and the
-// record.
+// How many steps were done, what the last one answered, or the one that was refused, how many
+// colours they changed in all, and the record.
 pub struct Many {
     pub done: usize,
     pub answer: Answer,
+    pub changed: usize,
     pub rec: Record,
 }
 
@@ -28,20 +30,36 @@ pub struct Many {
 fn stride(left: &mut [u16], right: &mut [u16], colour: &mut [u8], x: Record, cap: usize) -> Ahead
     requires { ⌜ Passes (state (now left) (now right) (now colour) x) ⌝ }
     requires { ⌜ Room x cap ⌝ }
-    ensures { λ r. ⌜ (r .d ≤ cap) × Leads (given left right colour x) (r .d)
+    ensures { λ r. ⌜ (r .d ≤ cap) × Leads (given left right colour x) (r .d) (r .changed)
         (state (is left) (is right) (is colour) (r .rec)) ⌝ }
 {
     if cap == 0 {
-        return Ahead { d: 0, rec: x };
+        return Ahead {
+            d: 0,
+            changed: 0,
+            rec: x,
+        };
     }
     let phase = x.phase;
     match phase {
         Phase::Roots(i) => in_order::roots(left, right, colour, x, i, cap),
         Phase::Scan(i, k) => scanning::scans(left, right, colour, x, i, k, cap),
         Phase::Append(i) => in_order::appends(left, right, colour, x, i, cap),
-        Phase::Left(_) => Ahead { d: 0, rec: x },
-        Phase::Right(_) => Ahead { d: 0, rec: x },
-        Phase::Black(_) => Ahead { d: 0, rec: x },
+        Phase::Left(_) => Ahead {
+            d: 0,
+            changed: 0,
+            rec: x,
+        },
+        Phase::Right(_) => Ahead {
+            d: 0,
+            changed: 0,
+            rec: x,
+        },
+        Phase::Black(_) => Ahead {
+            d: 0,
+            changed: 0,
+            rec: x,
+        },
     }
 }
 
@@ -57,7 +75,7 @@ fn stride_and_step(
     requires { ⌜ Passes (state (now left) (now right) (now colour) x) ⌝ }
     requires { ⌜ b ≡ bound 2 (x .m) (x .r) ⌝ }
     ensures { λ r. ⌜ (r .done ≤ most) × StrideAndStep b (given left right colour x) (r .done)
-        (r .answer) (state (is left) (is right) (is colour) (r .rec)) ⌝ }
+        (r .changed) (r .answer) (state (is left) (is right) (is colour) (r .rec)) ⌝ }
 {
     let near = b - 1 - x.steps;
     let l = stride(left, right, colour, x, ahead::least(most, near as usize));
@@ -66,9 +84,11 @@ fn stride_and_step(
     let made = collector::phase_step(left, right, colour, y, phase);
     let answer = made.answer;
     let rec = made.rec;
+    let last = made.changed;
     Many {
         done: l.d,
         answer,
+        changed: l.changed + last as usize,
         rec,
     }
 }
@@ -97,28 +117,42 @@ fn all_steps(
     requires { ⌜ b ≡ bound 2 (x .m) (x .r) ⌝ }
     ensures { λ r. ⌜ lasted (r .done) (r .answer) (state (is left) (is right) (is colour) (r .rec))
         ≡ more n 0 (Named 0) (given left right colour x) ⌝ }
+    ensures { λ r. ⌜ r .changed ≡ changesAll (collects n) (given left right colour x) ⌝ }
 {
     let mut rec = x;
     let mut answer = Answer::Named(0);
     let mut done = 0;
+    let mut changed = 0;
     while done < n {
         let gone = stride_and_step(left, right, colour, rec, b, n - done - 1);
         rec = gone.rec;
         answer = gone.answer;
         done += gone.done;
+        changed += gone.changed;
         if answer.code() != 0 {
-            return Many { done, answer, rec };
+            return Many {
+                done,
+                answer,
+                changed,
+                rec,
+            };
         }
         done += 1;
         if !rules::cycle_ok(rec, b) {
             return Many {
                 done,
                 answer: ended(done, n, answer),
+                changed,
                 rec,
             };
         }
     }
-    Many { done, answer, rec }
+    Many {
+        done,
+        answer,
+        changed,
+        rec,
+    }
 }
 
 // n steps of the collector, or as many as are done before one is refused.
@@ -132,12 +166,14 @@ pub fn collect_many(
     ensures { λ r. ⌜ (many r (is left) (is right) (is colour)
         ≡ schedule (collects n) (given left right colour x)) × (r .answer
         ≡ lastAnswer n (given left right colour x)) ⌝ }
+    ensures { λ r. ⌜ r .changed ≡ changesAll (collects n) (given left right colour x) ⌝ }
 {
     let code = rules::check(left.len(), right.len(), colour.len(), x);
     if code != 0 {
         return Many {
             done: 0,
             answer: Answer::refused(code, 0),
+            changed: 0,
             rec: x,
         };
     }

@@ -10,12 +10,12 @@ use Rattle.base.specs.Choice.{pick}
 use Rattle.base.proofs.Tests.{pick-yes, pick-no, code-yes, code-no}
 use Rattle.rules.specs.Table.{State, Outcome, state}
 use Rattle.rules.specs.Steps.{step, collecting, codeOf}
-use Rattle.rules.specs.Schedules.{followed, ran, follow, collects}
+use Rattle.rules.specs.Schedules.{followed, follow, collects}
 use Rattle.rules.specs.declared.Record.{Record}
-use Rattle.rules.specs.declared.Ran.{Ran}
 use Rattle.rules.proofs.Refused.{refused-stays}
 use Rattle.record_words.specs.Words.{wordsOf, recordOf, isRecord}
 use Rattle.bench_steps.specs.Steps.{stepped, steps}
+use Rattle.bench_steps.specs.declared.Single.{Single}
 
 -- k of n steps were done and led to s
 module _ (n k : ℕ) (s : State) where
@@ -56,8 +56,9 @@ module _ (n : ℕ) (l r c w : List ℕ) where
   unfolding steps
   spurned h = pick-no _ _ _ _ h refl
 
-  pub faces : true ≡ isRecord w → (x : Record) → x ≡ recordOf w → (l′ r′ c′ w′ : List ℕ) (z : Ran)
-      → ran z l′ r′ c′ ≡ follow (collects n) 0 (state l r c x) → w′ ≡ wordsOf (z .rec)
+  pub faces : true ≡ isRecord w → (x : Record) → x ≡ recordOf w → (l′ r′ c′ w′ : List ℕ)
+      (z : Single) → followed (z .done) (z .code) (state l′ r′ c′ (z .rec))
+      ≡ follow (collects n) 0 (state l r c x) → w′ ≡ wordsOf (z .rec)
       → stepped (z .done) l′ r′ c′ w′ ≡ steps n l r c w
   unfolding steps
   faces h x e l′ r′ c′ w′ z q v = pick-yes _ _ _ _ h (rw (← e, ← q, v))

@@ -1,16 +1,24 @@
 // For measuring only: single steps for C. Alone in its module, so that LLVM makes one function of
 // it.
-use rules::Ran;
 use rules::Record;
 ghost use mathlib.Core.Path.{_≡_};
-ghost use Rattle.rules.specs.Schedules.{ran, follow, collects};
+ghost use Rattle.rules.specs.Table.{state};
+ghost use Rattle.rules.specs.Schedules.{followed, follow, collects};
 ghost use Rattle.bench_steps.specs.Steps.{stepped, steps};
 ghost use Rattle.base.specs.Lent.{was, is};
 ghost use Rattle.rules.specs.Lent.{given};
 
+// How many steps were done, the code that ended them or 0, and the record.
+struct Single {
+    done: usize,
+    code: u8,
+    rec: Record,
+}
+
 // n single steps, one call of `collect` each, until one is refused.
-fn one_by_one(left: &mut [u16], right: &mut [u16], colour: &mut [u8], x: Record, n: usize) -> Ran
-    ensures { λ r. ⌜ ran r (is left) (is right) (is colour)
+fn one_by_one(left: &mut [u16], right: &mut [u16], colour: &mut [u8], x: Record, n: usize) -> Single
+    ensures { λ r. ⌜ followed (r .done) (r .code)
+        (state (is left) (is right) (is colour) (r .rec))
         ≡ follow (collects n) 0 (given left right colour x) ⌝ }
 {
     let mut rec = x;
@@ -21,11 +29,11 @@ fn one_by_one(left: &mut [u16], right: &mut [u16], colour: &mut [u8], x: Record,
         let answer = made.answer;
         let code = answer.code();
         if code != 0 {
-            return Ran { done, code, rec };
+            return Single { done, code, rec };
         }
         done += 1;
     }
-    Ran { done, code: 0, rec }
+    Single { done, code: 0, rec }
 }
 
 // The same over words that C keeps; how many were done.

@@ -2,19 +2,27 @@
 use Prim.Native.Nat.{ℕ}
 use native.Mathlib.Omega.{arith}
 use lib.Dec.{eqb}
-use mathlib.Core.Path.{_≡_, refl, _∙_}
+use mathlib.Core.Path.{_≡_, refl, ap, _∙_}
 use mathlib.Core.List.{[], _∷_}
 use Rattle.base.specs.Choice.{pick, first}
 use Rattle.base.proofs.Tests.{pick-yes, pick-no, eq-yes, eq-no}
 use Rattle.rules.specs.Table.{State, Outcome, refuse}
 use Rattle.rules.specs.Check.{check}
 use Rattle.rules.specs.Steps.{step, source, target, taking, linking, shading, collecting, looking}
+use Rattle.rules.specs.Changes.{differing, changes}
 use Rattle.rules.specs.declared.Step.{Step}
 use Rattle.rules.specs.declared.Place.{Place}
 use Rattle.rules.proofs.Laws.{step-taking, step-linking, step-shading, step-collecting}
 use Rattle.rules.proofs.Laws.{step-looking}
 
 module _ (a : Step) (s : State) where
+  -- a call that does b's step, which is a's, and counts the colours that it changes
+  pub named : (b : Step) (o : Outcome) (n : ℕ) → (o ≡ step b s) × (n ≡ changes b s)
+      → step b s ≡ step a s → (o ≡ step a s) × (n ≡ changes a s)
+  unfolding changes
+  named b o n h e =
+      (h .0 ∙ e, h .1 ∙ ap (λ (p : Outcome). differing (s .colour) (p .state .colour)) e)
+
   is : (n : ℕ) (y o : Outcome) → a .kind ≡ n → y ≡ pick (eqb (a .kind) n) y o
   is n y o h = pick-yes _ _ _ _ (eq-yes (a .kind) n h) refl
 

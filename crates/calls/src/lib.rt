@@ -5,6 +5,7 @@ use rules::Record;
 use rules::Step;
 ghost use mathlib.Core.Path.{_≡_};
 ghost use Rattle.rules.specs.Steps.{step, source, target};
+ghost use Rattle.rules.specs.Changes.{changes};
 ghost use Rattle.calls.specs.Unreadable.{unreadable};
 ghost use Rattle.rules.specs.Lent.{given, leaves};
 
@@ -42,6 +43,7 @@ pub fn unreadable(lefts: usize, rights: usize, colours: usize, x: Record) -> u8
 // One step: 0 take, 1 link, 2 shade, 3 collect, 4 look.
 pub fn step(left: &mut [u16], right: &mut [u16], colour: &mut [u8], x: Record, a: Step) -> Made
     ensures { λ r. ⌜ leaves r left right colour ≡ step a (given left right colour x) ⌝ }
+    ensures { λ r. ⌜ r .changed ≡ changes a (given left right colour x) ⌝ }
 {
     let kind = a.kind;
     if kind == 0 {

@@ -6,11 +6,12 @@ use rules::Record;
 ghost use mathlib.Core.Path.{_≡_};
 ghost use mathlib.Core.List.{List};
 ghost use Prim.Native.Nat.{ℕ, _+_, _<_, _≤_};
-ghost use lib.ListN.{length};
-ghost use Rattle.rules.specs.Table.{mostSlots, table, state, handed, outcome};
+ghost use lib.ListN.{length, set};
+ghost use Rattle.rules.specs.Table.{mostSlots, table, state, handed, outcome, black};
 ghost use Rattle.rules.specs.Collector.{shadeStep, afterRoots, scanStep, edgeStep, blackStep};
 ghost use Rattle.rules.specs.Collector.{appendWhite, appendStep, phaseStep};
 ghost use Rattle.rules.specs.Steps.{step, collecting};
+ghost use Rattle.rules.specs.Changes.{differing, changes};
 ghost use Rattle.rules.specs.Facts.{Checked, InRange};
 ghost use Rattle.rules.specs.declared.Phase.the-variants.{Scan};
 ghost use Rattle.base.specs.Lent.{was, is};
@@ -22,14 +23,16 @@ fn shade_step(colour: &mut [u8], x: Record, n: u16, then: Phase) -> Made
     requires { ⌜ n < x .m ⌝ }
     ensures { λ r. ⌜ ((es : List (List ℕ)) → handed r es (is colour)
         ≡ shadeStep (table es (was colour) x) n then) ⌝ }
+    ensures { λ r. ⌜ r .changed ≡ differing (was colour) (is colour) ⌝ }
 {
     let at = n as usize;
     if 2 < colour[at] {
         return rules::refusal(7, n, x);
     }
-    table::shade_node(colour, n);
+    let changed = table::shade_node(colour, n);
     Made {
         answer: Answer::Shaded(n),
+        changed,
         rec: x.moved(then),
     }
 }
@@ -52,6 +55,7 @@ fn scan_step(colour: &[u8], x: Record, i: u16, k: u16) -> Made
     requires { ⌜ InRange (x .m) (x .r) (Scan i k) ⌝ }
     ensures { λ r. ⌜ ((es : List (List ℕ)) → handed r es (was colour)
         ≡ scanStep (table es (was colour) x) i k) ⌝ }
+    ensures { λ r. ⌜ r .changed ≡ 0 ⌝ }
 {
     let at = i as usize;
     if 2 < colour[at] {
@@ -60,17 +64,20 @@ fn scan_step(colour: &[u8], x: Record, i: u16, k: u16) -> Made
     if colour[at] == 1 {
         return Made {
             answer: Answer::Looked(i),
+            changed: 0,
             rec: x.moved(Phase::Left(i)),
         };
     }
     if k == 1 {
         return Made {
             answer: Answer::Looked(i),
+            changed: 0,
             rec: x.marked(),
         };
     }
     Made {
         answer: Answer::Looked(i),
+        changed: 0,
         rec: x.moved(Phase::Scan((i + 1) % x.m, k - 1)),
     }
 }
@@ -80,11 +87,26 @@ fn edge_step(colour: &mut [u8], x: Record, i: u16, e: u16, then: Phase) -> Made
     requires { ⌜ Checked (x .m) (x .m) (length (now colour)) x ⌝ }
     ensures { λ r. ⌜ ((es : List (List ℕ)) → handed r es (is colour)
         ≡ edgeStep (table es (was colour) x) i e then) ⌝ }
+    ensures { λ r. ⌜ r .changed ≡ differing (was colour) (is colour) ⌝ }
 {
     if table::bad_edge(x.m, e) {
         return rules::refusal(7, i, x);
     }
     shade_step(colour, x, e, then)
+}
+
+// [Changes 1] Makes node n black, whatever its colour: 1 where it was not, else 0.
+fn blacken(colour: &mut [u8], n: u16) -> u8
+    requires { ⌜ n < length (now colour) ⌝ }
+    ensures { λ changed. ⌜ is colour ≡ set (was colour) n black ⌝ }
+    ensures { λ changed. ⌜ changed ≡ differing (was colour) (is colour) ⌝ }
+{
+    let at = n as usize;
+    if colour[at] == 2 {
+        return 0;
+    }
+    colour[at] = 2;
+    1
 }
 
 // Black i: node i is black, and the scan begins again behind it.
@@ -93,11 +115,12 @@ fn black_step(colour: &mut [u8], x: Record, i: u16) -> Made
     requires { ⌜ i < x .m ⌝ }
     ensures { λ r. ⌜ ((es : List (List ℕ)) → handed r es (is colour)
         ≡ blackStep (table es (was colour) x) i) ⌝ }
+    ensures { λ r. ⌜ r .changed ≡ differing (was colour) (is colour) ⌝ }
 {
-    let at = i as usize;
-    colour[at] = 2;
+    let changed = blacken(colour, i);
     Made {
         answer: Answer::Blackened(i),
+        changed,
         rec: x.rescan(i),
     }
 }
@@ -108,6 +131,7 @@ fn append_white(left: &mut [u16], right: &mut [u16], x: Record, i: u16) -> Made
     requires { ⌜ i < x .m ⌝ }
     ensures { λ r. ⌜ ((c : List ℕ) → outcome r (is left) (is right) c
         ≡ appendWhite (state (was left) (was right) c x) i) ⌝ }
+    ensures { λ r. ⌜ r .changed ≡ 0 ⌝ }
 {
     let at = i as usize;
     let end = x.last as usize;
@@ -122,6 +146,7 @@ fn append_white(left: &mut [u16], right: &mut [u16], x: Record, i: u16) -> Made
     left[end] = i;
     Made {
         answer: Answer::Appended(i),
+        changed: 0,
         rec: x.with_last(i).after_append(i),
     }
 }
@@ -131,12 +156,14 @@ fn append_step(left: &mut [u16], right: &mut [u16], colour: &mut [u8], x: Record
     requires { ⌜ Checked (length (now left)) (length (now right)) (length (now colour)) x ⌝ }
     requires { ⌜ i < x .m ⌝ }
     ensures { λ r. ⌜ leaves r left right colour ≡ appendStep (given left right colour x) i ⌝ }
+    ensures { λ r. ⌜ r .changed ≡ differing (was colour) (is colour) ⌝ }
 {
     let at = i as usize;
     if colour[at] == 2 {
         colour[at] = 0;
         return Made {
             answer: Answer::Whitened(i),
+            changed: 1,
             rec: x.after_append(i),
         };
     }
@@ -157,6 +184,7 @@ pub fn phase_step(
     requires { ⌜ Checked (length (now left)) (length (now right)) (length (now colour)) x ⌝ }
     requires { ⌜ InRange (x .m) (x .r) phase ⌝ }
     ensures { λ r. ⌜ leaves r left right colour ≡ phaseStep (given left right colour x) phase ⌝ }
+    ensures { λ r. ⌜ r .changed ≡ differing (was colour) (is colour) ⌝ }
 {
     match phase {
         Phase::Roots(i) => shade_step(colour, x, i, after_roots(x.m, x.r, i)),
@@ -184,6 +212,7 @@ pub fn phase_step(
 // the step reads is bad.
 pub fn collect(left: &mut [u16], right: &mut [u16], colour: &mut [u8], x: Record) -> Made
     ensures { λ r. ⌜ leaves r left right colour ≡ step collecting (given left right colour x) ⌝ }
+    ensures { λ r. ⌜ r .changed ≡ changes collecting (given left right colour x) ⌝ }
 {
     let code = rules::check(left.len(), right.len(), colour.len(), x);
     if code != 0 {

@@ -13,6 +13,7 @@ ghost use lib.ListN.{length};
 ghost use Rattle.rules.specs.Table.{table, state, handed, outcome};
 ghost use Rattle.rules.specs.Editor.{look, linkTo, depart, pay};
 ghost use Rattle.rules.specs.Steps.{step, looking, linking, shading};
+ghost use Rattle.rules.specs.Changes.{differing, changes};
 ghost use Rattle.rules.specs.Facts.{Checked, Owable};
 ghost use Rattle.rules.specs.declared.Record.{Record};
 ghost use Rattle.editor.specs.Codes.{lookCode};
@@ -33,6 +34,7 @@ fn look_code(lefts: usize, rights: usize, colours: usize, x: Record, p: Place) -
 pub fn look(left: &[u16], right: &[u16], colour: &[u8], x: Record, p: Place) -> Made
     ensures { λ r. ⌜ outcome r (was left) (was right) (was colour)
         ≡ step (looking p) (given left right colour x) ⌝ }
+    ensures { λ r. ⌜ r .changed ≡ changes (looking p) (given left right colour x) ⌝ }
 {
     let code = look_code(left.len(), right.len(), colour.len(), x, p);
     if code != 0 {
@@ -44,6 +46,7 @@ pub fn look(left: &[u16], right: &[u16], colour: &[u8], x: Record, p: Place) -> 
     };
     Made {
         answer: Answer::Named(n),
+        changed: 0,
         rec: x,
     }
 }
@@ -56,6 +59,7 @@ fn link_to(left: &mut [u16], right: &mut [u16], x: Record, side: u32, q: Place, 
     requires { ⌜ side < 2 ⌝ }
     ensures { λ r. ⌜ ((c : List ℕ) → outcome r (is left) (is right) c
         ≡ linkTo (state (was left) (was right) c x) side q n) ⌝ }
+    ensures { λ r. ⌜ r .changed ≡ 0 ⌝ }
 {
     let to = places::walk(left, right, x.m, q);
     let Walk::At(t) = to else {
@@ -64,6 +68,7 @@ fn link_to(left: &mut [u16], right: &mut [u16], x: Record, side: u32, q: Place, 
     table::set_edge(left, right, side, n, t);
     Made {
         answer: Answer::Linked(t),
+        changed: 0,
         rec: x.owing(t),
     }
 }
@@ -77,6 +82,7 @@ fn link_from(left: &mut [u16], right: &mut [u16], x: Record, p: Place, side: u32
     ensures { λ r. ⌜ ((c : List ℕ) → outcome r (is left) (is right) c
         ≡ depart (state (was left) (was right) c x) p
         (linkTo (state (was left) (was right) c x) side q)) ⌝ }
+    ensures { λ r. ⌜ r .changed ≡ 0 ⌝ }
 {
     let from = places::depart(left, right, x.m, p);
     match from {
@@ -97,6 +103,7 @@ pub fn link(
 ) -> Made
     ensures { λ r. ⌜ outcome r (is left) (is right) (was colour)
         ≡ step (linking p side q) (given left right colour x) ⌝ }
+    ensures { λ r. ⌜ r .changed ≡ changes (linking p side q) (given left right colour x) ⌝ }
 {
     let target = places::place_code(x.r, q);
     let code = places::edit_code(left.len(), right.len(), colour.len(), x, p, side, target);
@@ -111,6 +118,7 @@ fn pay(colour: &mut [u8], x: Record, owed: Owed) -> Made
     requires { ⌜ Owable (length (now colour)) owed ⌝ }
     ensures { λ r. ⌜ ((es : List (List ℕ)) → handed r es (is colour)
         ≡ pay (table es (was colour) x) owed) ⌝ }
+    ensures { λ r. ⌜ r .changed ≡ differing (was colour) (is colour) ⌝ }
 {
     match owed {
         Owed::Nothing => rules::refusal(6, 0, x),
@@ -119,9 +127,10 @@ fn pay(colour: &mut [u8], x: Record, owed: Owed) -> Made
             if 2 < colour[at] {
                 return rules::refusal(7, n, x);
             }
-            table::shade_node(colour, n);
+            let changed = table::shade_node(colour, n);
             Made {
                 answer: Answer::Shaded(n),
+                changed,
                 rec: x.paid(),
             }
         }
@@ -132,6 +141,7 @@ fn pay(colour: &mut [u8], x: Record, owed: Owed) -> Made
 pub fn shade(left: &[u16], right: &[u16], colour: &mut [u8], x: Record) -> Made
     ensures { λ r. ⌜ outcome r (was left) (was right) (is colour)
         ≡ step shading (given left right colour x) ⌝ }
+    ensures { λ r. ⌜ r .changed ≡ changes shading (given left right colour x) ⌝ }
 {
     let code = rules::check(left.len(), right.len(), colour.len(), x);
     if code != 0 {

@@ -90,6 +90,7 @@ fn last_of(m: u16, r: u16) -> u16
 pub fn fresh(left: &mut [u16], right: &mut [u16], colour: &mut [u8], m: usize, r: usize) -> Made
     ensures { λ d. ⌜ leaves d left right colour
         ≡ fresh m r (was left ∷ was right ∷ []) (was colour) ⌝ }
+    ensures { λ d. ⌜ d .changed ≡ 0 ⌝ }
 {
     if !rules::size_ok(m, r, left.len(), right.len(), colour.len()) {
         return rules::refusal(1, 0, Record::fresh(0, 0, 0));
@@ -100,6 +101,7 @@ pub fn fresh(left: &mut [u16], right: &mut [u16], colour: &mut [u8], m: usize, r
     let last = last_of(nodes, slots);
     Made {
         answer: Answer::Started(last),
+        changed: 0,
         rec: Record::fresh(nodes, slots, last),
     }
 }

@@ -3,38 +3,48 @@ use ahead::Ahead;
 use rules::Phase;
 use rules::Record;
 ghost use mathlib.Core.Path.{_≡_};
-ghost use Prim.Native.Nat.{_+_, _-_, _<_, _≤_};
+ghost use Prim.Native.Nat.{_+_, _<_, _≤_};
 ghost use lib.ListN.{length, getD};
 ghost use Rattle.rules.specs.Table.{mostNodes, state};
 ghost use Rattle.rules.specs.Facts.{manySteps};
 ghost use Rattle.rules.specs.declared.Phase.the-variants.{Roots, Append};
 ghost use Rattle.ahead.specs.Leads.{Passes, Room, Leads};
-ghost use Rattle.in_order.specs.Sweeping.{rooted, Shades, swept};
+ghost use Rattle.in_order.specs.Sweeping.{rooted, Shades, swept, AppendLeads};
 ghost use Rattle.base.specs.Lent.{was, is};
 ghost use Rattle.rules.specs.Lent.{given};
 
-// Where the appending stands: Append i, the end of the free list, and the steps made here.
+// Where the appending stands: Append i, the end of the free list, the steps made here, and how many
+// colours they changed.
 struct AppendAt {
     i: usize,
     last: usize,
     d: usize,
+    changed: usize,
+}
+
+// Nodes shaded, and how many colours that changed.
+struct Shaded {
+    d: usize,
+    changed: usize,
 }
 
 // Shades the nodes from i on, at most cap of them, up to a bad colour, and counts them.
-fn shading(colour: &mut [u8], i: usize, cap: usize) -> usize
+fn shading(colour: &mut [u8], i: usize, cap: usize) -> Shaded
     requires { ⌜ i + cap ≤ length (now colour) ⌝ }
     requires { ⌜ length (now colour) ≤ mostNodes ⌝ }
-    ensures { λ d. ⌜ (d ≤ cap) × Shades (was colour) i cap d (is colour) ⌝ }
+    ensures { λ r. ⌜ (r .d ≤ cap) × Shades (was colour) i cap (r .d) (r .changed) (is colour) ⌝ }
 {
     let mut d = 0;
+    let mut changed = 0;
     while d < cap {
         if 2 < colour[i + d] {
-            return d;
+            return Shaded { d, changed };
         }
-        table::shade_node(colour, (i + d) as u16);
+        let more = table::shade_node(colour, (i + d) as u16);
+        changed += more as usize;
         d += 1;
     }
-    d
+    Shaded { d, changed }
 }
 
 fn rooted(mut x: Record, i: usize, d: usize) -> Record
@@ -62,15 +72,16 @@ pub fn roots(left: &[u16], right: &[u16], colour: &mut [u8], x: Record, i: u16, 
     requires { ⌜ Passes (state (now left) (now right) (now colour) x) ⌝ }
     requires { ⌜ Room x cap ⌝ }
     requires { ⌜ x .phase ≡ Roots i ⌝ }
-    ensures { λ r. ⌜ (r .d ≤ cap) × Leads (given left right colour x) (r .d)
+    ensures { λ r. ⌜ (r .d ≤ cap) × Leads (given left right colour x) (r .d) (r .changed)
         (state (was left) (was right) (is colour) (r .rec)) ⌝ }
 {
     let from = i as usize;
     let near = ahead::least(cap, x.r as usize + 1 - from);
-    let d = shading(colour, from, near);
+    let shaded = shading(colour, from, near);
     Ahead {
-        d,
-        rec: rooted(x, from, d),
+        d: shaded.d,
+        changed: shaded.changed,
+        rec: rooted(x, from, shaded.d),
     }
 }
 
@@ -86,9 +97,8 @@ fn append_white(
     requires { ⌜ Room x (s .d + 1) ⌝ }
     requires { ⌜ s .i + 1 < x .m ⌝ }
     requires { ⌜ getD (now colour) (s .i) 0 ≡ 0 ⌝ }
-    ensures { λ r. ⌜ (r .d ≤ s .d + 1) ×
-        ((s .d ≤ r .d) × Leads (given left right colour (swept x s)) (r .d - s .d)
-        (state (is left) (is right) (was colour) (swept x r))) ⌝ }
+    ensures { λ r. ⌜ (r .d ≤ s .d + 1) × AppendLeads (was left) (was right) (was colour) x s
+        (is left) (is right) (was colour) r ⌝ }
 {
     let i = s.i;
     let last = s.last;
@@ -105,6 +115,7 @@ fn append_white(
         i: i + 1,
         last: i,
         d: s.d + 1,
+        changed: s.changed,
     }
 }
 
@@ -118,9 +129,9 @@ fn append_one(
 ) -> AppendAt
     requires { ⌜ Passes (state (now left) (now right) (now colour) (swept x s)) ⌝ }
     requires { ⌜ Room x (s .d + 1) ⌝ }
-    ensures { λ r. ⌜ (r .d ≤ s .d + 1) ×
-        ((s .d ≤ r .d) × Leads (given left right colour (swept x s)) (r .d - s .d)
-        (state (is left) (is right) (is colour) (swept x r))) ⌝ }
+    requires { ⌜ s .changed ≤ s .d ⌝ }
+    ensures { λ r. ⌜ (r .d ≤ s .d + 1) × AppendLeads (was left) (was right) (was colour) x s
+        (is left) (is right) (is colour) r ⌝ }
 {
     let i = s.i;
     if i + 1 == x.m as usize {
@@ -132,6 +143,7 @@ fn append_one(
             i: i + 1,
             last: s.last,
             d: s.d + 1,
+            changed: s.changed + 1,
         };
     }
     if colour[i] == 0 {
@@ -151,9 +163,9 @@ fn appending(
     requires { ⌜ Passes (state (now left) (now right) (now colour) (swept x from)) ⌝ }
     requires { ⌜ Room x cap ⌝ }
     requires { ⌜ from .d ≤ cap ⌝ }
-    ensures { λ r. ⌜ (r .d ≤ cap) × ((from .d ≤ r .d)
-        × Leads (given left right colour (swept x from)) (r .d - from .d)
-        (state (is left) (is right) (is colour) (swept x r))) ⌝ }
+    requires { ⌜ from .changed ≤ from .d ⌝ }
+    ensures { λ r. ⌜ (r .d ≤ cap) × AppendLeads (was left) (was right) (was colour) x from
+        (is left) (is right) (is colour) r ⌝ }
 {
     let mut s = from;
     while s.d < cap {
@@ -178,17 +190,19 @@ pub fn appends(
     requires { ⌜ Passes (state (now left) (now right) (now colour) x) ⌝ }
     requires { ⌜ Room x cap ⌝ }
     requires { ⌜ x .phase ≡ Append i ⌝ }
-    ensures { λ r. ⌜ (r .d ≤ cap) × Leads (given left right colour x) (r .d)
+    ensures { λ r. ⌜ (r .d ≤ cap) × Leads (given left right colour x) (r .d) (r .changed)
         (state (is left) (is right) (is colour) (r .rec)) ⌝ }
 {
     let from = AppendAt {
         i: i as usize,
         last: x.last as usize,
         d: 0,
+        changed: 0,
     };
     let s = appending(left, right, colour, x, cap, from);
     Ahead {
         d: s.d,
+        changed: s.changed,
         rec: swept(x, s),
     }
 }

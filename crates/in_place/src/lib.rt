@@ -1,9 +1,10 @@
 // The collector for a frame loop: the record is lent, and changed in place.
-use rules::Answer;
 use rules::Record;
+use rules::Told;
 ghost use mathlib.Core.Path.{_≡_};
 ghost use Rattle.rules.specs.Table.{outcome};
 ghost use Rattle.rules.specs.Steps.{step, collecting};
+ghost use Rattle.rules.specs.Changes.{changes};
 ghost use Rattle.base.specs.Lent.{was, is};
 ghost use Rattle.rules.specs.Lent.{given};
 
@@ -13,11 +14,16 @@ pub fn collect_in_place(
     right: &mut [u16],
     colour: &mut [u8],
     rec: &mut Record,
-) -> Answer
-    ensures { λ r. ⌜ outcome (record { answer = r; rec = is rec }) (is left) (is right) (is colour)
-        ≡ step collecting (given left right colour (was rec)) ⌝ }
+) -> Told
+    ensures { λ r. ⌜ (outcome (record { answer = r .answer; changed = r .changed; rec = is rec })
+        (is left) (is right) (is colour)
+        ≡ step collecting (given left right colour (was rec))) × (r .changed
+        ≡ changes collecting (given left right colour (was rec))) ⌝ }
 {
     let c = collector::collect(left, right, colour, *rec);
     *rec = c.rec;
-    c.answer
+    Told {
+        answer: c.answer,
+        changed: c.changed,
+    }
 }

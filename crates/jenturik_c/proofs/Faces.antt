@@ -11,19 +11,23 @@ use Rattle.rules.specs.declared.Made.{Made}
 use Rattle.batch.specs.Last.{lastAnswer}
 use Rattle.rules.specs.declared.Answer.{Answer}
 use Rattle.record_words.specs.Words.{wordsOf, recordOf, isRecord}
-use Rattle.jenturik_c.specs.Face.{toldOf, noRecord, shown, faced, face}
+use Rattle.jenturik_c.specs.Face.{Answered, toldOf, noRecord, shown, faced, face, faceCount}
 use Rattle.jenturik_c.specs.Many.{facedRun, faceRun, lastTold}
-use Rattle.jenturik_c.specs.declared.Told.{Told}
 
 module _ (l r c w : List ℕ) where
   module _ (h : false ≡ isRecord w) where
-    pub spurned : (f : State → Outcome) (t : Told) → t ≡ noRecord → faced t l r c w ≡ face f l r c w
+    pub spurned : (f : State → Outcome) (t : Answered) → t ≡ noRecord
+        → faced t l r c w ≡ face f l r c w
     unfolding face
     spurned f t e = pick-no _ _ _ _ h (rw e)
 
     pub spurned-run : (f : State → Followed) → facedRun 0 2 l r c w ≡ faceRun f l r c w
     unfolding faceRun
     spurned-run f = pick-no _ _ _ _ h refl
+
+    pub spurned-count : (f : State → ℕ) (n : ℕ) → n ≡ 0 → n ≡ faceCount f l r c w
+    unfolding faceCount
+    spurned-count f n e = pick-no _ _ _ _ h e
 
     pub spurned-last : (n : ℕ) → noRecord ≡ lastTold n l r c w
     unfolding lastTold
@@ -32,7 +36,8 @@ module _ (l r c w : List ℕ) where
   -- l′, r′ and c′ are the slices as the call over the record left them, w′ the words of the record
   -- that it handed back
   module _ (l′ r′ c′ w′ : List ℕ) (x : Record) (h : true ≡ isRecord w) (e : x ≡ recordOf w) where
-    pub faces : (f : State → Outcome) (d : Made) (t : Told) → outcome d l′ r′ c′ ≡ f (state l r c x)
+    pub faces : (f : State → Outcome) (d : Made) (t : Answered)
+        → outcome d l′ r′ c′ ≡ f (state l r c x)
         → w′ ≡ wordsOf (d .rec) → t ≡ toldOf (d .answer)
         → faced t l′ r′ c′ w′ ≡ face f l r c w
     unfolding face
@@ -44,12 +49,17 @@ module _ (l r c w : List ℕ) where
     unfolding faceRun
     faces-run f n code y q v = pick-yes _ _ _ _ h (rw (← e, ← q, v))
 
-  pub faces-last : (x : Record) (n : ℕ) (a : Answer) (t : Told) → true ≡ isRecord w → x ≡ recordOf w
-      → a ≡ lastAnswer n (state l r c x) → t ≡ toldOf a → t ≡ lastTold n l r c w
+  pub faces-count : (x : Record) → true ≡ isRecord w → x ≡ recordOf w → (f : State → ℕ) (n : ℕ)
+      → n ≡ f (state l r c x) → n ≡ faceCount f l r c w
+  unfolding faceCount
+  faces-count x h e f n q = pick-yes _ _ _ _ h (rw (← e) q)
+
+  pub faces-last : (x : Record) (n : ℕ) (a : Answer) (t : Answered) → true ≡ isRecord w
+      → x ≡ recordOf w → a ≡ lastAnswer n (state l r c x) → t ≡ toldOf a → t ≡ lastTold n l r c w
   unfolding lastTold
   faces-last x n a t h e q k = pick-yes _ _ _ _ h (rw (← e, ← q, k))
 
 -- the same where no record is read
-pub shows : (o : Outcome) (d : Made) (t : Told) (l r c w : List ℕ) → outcome d l r c ≡ o → w
+pub shows : (o : Outcome) (d : Made) (t : Answered) (l r c w : List ℕ) → outcome d l r c ≡ o → w
     ≡ wordsOf (d .rec) → t ≡ toldOf (d .answer) → faced t l r c w ≡ shown o
 shows o d t l r c w q v k = rw (← q, v, k)

@@ -32,10 +32,9 @@ use Rattle.rules.proofs.Refused.{refused-stays}
 use Rattle.schedule.proofs.PartOfRun.{schedule-run}
 use Rattle.record_words.specs.Words.{wordsOf, recordOf, isRecord}
 use Rattle.record_words.proofs.RoundTrip.{words-back}
-use Rattle.jenturik_c.specs.Face.{Faced, toldOf, shown, faced, face, asking}
+use Rattle.jenturik_c.specs.Face.{Answered, Faced, toldOf, shown, faced, face, asking}
 use Rattle.jenturik_c.specs.Flat.{stepsOf, scheduleOf, STEP_WORDS}
 use Rattle.jenturik_c.specs.Many.{FacedRun, facedRun, shownRun, faceRun}
-use Rattle.jenturik_c.specs.declared.Told.{Told}
 
 module _ (s : State) where
   arrived : (w : Walk) (go : ℕ → Outcome) → ((n : ℕ) → go n .state ≡ s) → arrive s w go .state ≡ s
@@ -77,8 +76,8 @@ module _ (l r c w : List ℕ) where
       ∙ ap (λ (v : List ℕ). tell (l ∷ r ∷ []) c v) (words-back w (sym h))
 
   -- Look's contract over words that it does not write
-  pub looked : true ≡ isRecord w → (p : Place) (d : Made) (x : Record) (t : Told) → x ≡ recordOf w
-      → outcome d l r c ≡ step (looking p) (state l r c x) → t ≡ toldOf (d .answer)
+  pub looked : true ≡ isRecord w → (p : Place) (d : Made) (x : Record) (t : Answered)
+      → x ≡ recordOf w → outcome d l r c ≡ step (looking p) (state l r c x) → t ≡ toldOf (d .answer)
       → faced t l r c w ≡ face (step (looking p)) l r c w
   unfolding face
   looked h p d x t e k v =
@@ -87,7 +86,7 @@ module _ (l r c w : List ℕ) where
       pick-yes _ _ _ _ h (rw (← e, ← k, back, v))
 
   -- the same of a call that only answers
-  pub asked : true ≡ isRecord w → (f : State → Answer) (a : Answer) (x : Record) (t : Told)
+  pub asked : true ≡ isRecord w → (f : State → Answer) (a : Answer) (x : Record) (t : Answered)
       → x ≡ recordOf w → a ≡ f (state l r c x) → t ≡ toldOf a
       → faced t l r c w ≡ face (asking f) l r c w
   unfolding face

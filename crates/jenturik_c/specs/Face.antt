@@ -2,6 +2,7 @@
 use Rattle.base.specs.Choice.{pick}
 use Prim.Native.Nat.{ℕ}
 use mathlib.Core.List.{List, [], _∷_}
+use lib.Dec.{ltb}
 use Rattle.rules.specs.Table.{State, Outcome, state, did}
 use Rattle.rules.specs.Steps.{codeOf, nodeOf}
 use Rattle.rules.specs.declared.Place.{Place}
@@ -26,17 +27,26 @@ whatOf (Whitened n) = 8
 whatOf (Appended n) = 9
 whatOf (Counted k) = 10
 
-abbrev pub toldOf : Answer → Told
+-- what was done, the code and the node
+pub record Answered : Type 0 where
+  pub what : ℕ
+  pub code : ℕ
+  pub node : ℕ
+
+abbrev pub answeredOf : Told → Answered
+answeredOf t = record { what = t .what; code = t .code; node = t .node }
+
+abbrev pub toldOf : Answer → Answered
 toldOf a = record { what = whatOf a; code = codeOf a; node = nodeOf a }
 
 -- what is told, and the three slices and the words as the call leaves them
 pub record Faced : Type 0 where
-  pub told : Told
+  pub told : Answered
   pub edges : List (List ℕ)
   pub colour : List ℕ
   pub words : List ℕ
 
-abbrev pub faced : Told → List ℕ → List ℕ → List ℕ → List ℕ → Faced
+abbrev pub faced : Answered → List ℕ → List ℕ → List ℕ → List ℕ → Faced
 faced t l r c w = record { told = t; edges = l ∷ r ∷ []; colour = c; words = w }
 
 -- [C 6] what a call tells and leaves, the new record as words: Fresh too, whatever it answers
@@ -51,7 +61,7 @@ shown o = record {
 }
 
 -- [C 4] words that are no record's
-abbrev pub noRecord : Told
+abbrev pub noRecord : Answered
 noRecord = record { what = 0; code = 2; node = 0 }
 
 -- [C 1] the call f, where the words are a record's; [C 4] else nothing changes
@@ -61,6 +71,14 @@ face f l r c w = pick (isRecord w) (shown (f (state l r c (recordOf w)))) (faced
 -- [In use 3] a call that only answers: the state stays
 abbrev pub asking : (State → Answer) → State → Outcome
 asking f s = did (f s) s (s .rec)
+
+-- [Changes 1] how many colours the call f changed: none where the words are no record's
+unfoldable pub faceCount : (State → ℕ) → List ℕ → List ℕ → List ℕ → List ℕ → ℕ
+faceCount f l r c w = pick (isRecord w) (f (state l r c (recordOf w))) 0
+
+-- [Changes 2] a sum in 32 bits: where it does not fit, the largest number
+unfoldable pub fitted : ℕ → ℕ
+fitted n = pick (ltb n 4294967295) n 4294967295
 
 -- a place as a caller gives it
 abbrev pub placeOf : ℕ → ℕ → ℕ → Place

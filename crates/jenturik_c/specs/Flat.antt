@@ -8,6 +8,7 @@ use lib.Dec.{eqb}
 use Rattle.rules.specs.Table.{State}
 use Rattle.rules.specs.Check.{check}
 use Rattle.rules.specs.Schedules.{Followed, followed, schedule}
+use Rattle.rules.specs.Changes.{changesAll}
 use Rattle.rules.specs.declared.Step.{Step}
 use Rattle.record_words.specs.Words.{word}
 
@@ -92,3 +93,7 @@ unfoldable pub scheduleOf : List ℕ → State → Followed
 scheduleOf w s =
     pick (eqb (length w % STEP_WORDS) 0) (schedule (stepsOf w) s)
     (followed 0 (first (check s ∷ 10 ∷ [])) s)
+
+-- [Changes 2] how many colours it changes
+unfoldable pub changesOf : List ℕ → State → ℕ
+changesOf w s = pick (eqb (length w % STEP_WORDS) 0) (changesAll (stepsOf w) s) 0

@@ -7,7 +7,7 @@ use Rattle.rules.specs.Lent.{Slice}
 use Rattle.rules.specs.Table.{State, Outcome}
 use Rattle.rules.specs.Schedules.{Followed}
 use Rattle.record_words.specs.Words.{isRecord}
-use Rattle.jenturik_c.specs.Face.{Faced, faced, face}
+use Rattle.jenturik_c.specs.Face.{Answered, answeredOf, Faced, faced, face, faceCount}
 use Rattle.jenturik_c.specs.Many.{FacedRun, facedRun, faceRun, lastTold}
 use Rattle.jenturik_c.specs.declared.Told.{Told}
 
@@ -17,7 +17,7 @@ kept lent = record { entry = lent .entry; exit = lent .entry }
 
 -- what it tells, and the slices and the words as they are
 abbrev pub tells : Told → Slice → Slice → Slice → Slice → Faced
-tells t left right colour words = faced t (is left) (is right) (is colour) (is words)
+tells t left right colour words = faced (answeredOf t) (is left) (is right) (is colour) (is words)
 
 -- the call f of the slices and the words as they were
 abbrev pub facing : (State → Outcome) → Slice → Slice → Slice → Slice → Faced
@@ -33,9 +33,14 @@ facingRun f left right colour words =
     faceRun f (was left) (was right) (was colour) (was words)
 
 -- what the last of n collector steps answers
-abbrev pub facingLast : ℕ → Slice → Slice → Slice → Slice → Told
+abbrev pub facingLast : ℕ → Slice → Slice → Slice → Slice → Answered
 facingLast n left right colour words =
     lastTold n (was left) (was right) (was colour) (was words)
+
+-- how many colours a call changed that changes so many of a state
+abbrev pub facingCount : (State → ℕ) → Slice → Slice → Slice → Slice → ℕ
+facingCount f left right colour words =
+    faceCount f (was left) (was right) (was colour) (was words)
 
 -- [C 9] words that were a record's are a record's
 abbrev pub Stays : Slice → Type 0

@@ -6,8 +6,7 @@ use Rattle.rules.specs.Table.{State, state}
 use Rattle.rules.specs.Schedules.{Followed}
 use Rattle.batch.specs.Last.{lastAnswer}
 use Rattle.record_words.specs.Words.{wordsOf, recordOf, isRecord}
-use Rattle.jenturik_c.specs.Face.{toldOf, noRecord}
-use Rattle.jenturik_c.specs.declared.Told.{Told}
+use Rattle.jenturik_c.specs.Face.{Answered, toldOf, noRecord}
 use Rattle.jenturik_c.specs.declared.Last.{Last}
 
 -- how many steps were done, the code, and the three slices and the words as the call leaves them
@@ -45,8 +44,8 @@ faceRun f l r c w =
     pick (isRecord w) (shownRun (f (state l r c (recordOf w)))) (facedRun 0 2 l r c w)
 
 -- what the last of n collector steps answers, or the one that is refused
-abbrev pub lastOf : Last → Told
+abbrev pub lastOf : Last → Answered
 lastOf r = record { what = r .what; code = r .code; node = r .node }
 
-unfoldable pub lastTold : ℕ → List ℕ → List ℕ → List ℕ → List ℕ → Told
+unfoldable pub lastTold : ℕ → List ℕ → List ℕ → List ℕ → List ℕ → Answered
 lastTold n l r c w = pick (isRecord w) (toldOf (lastAnswer n (state l r c (recordOf w)))) noRecord

@@ -15,14 +15,16 @@ ghost use Rattle.rules.specs.Load.{load};
 ghost use Rattle.rules.specs.InUse.{inUse};
 ghost use Rattle.rules.specs.Steps.{step, taking, linking, shading, collecting, looking};
 ghost use Rattle.rules.specs.Schedules.{ran, schedule, collects};
+ghost use Rattle.rules.specs.Changes.{changes, changesAll};
 ghost use Rattle.record_words.specs.Words.{isRecord};
-ghost use Rattle.jenturik_c.specs.Face.{whatOf, toldOf, noRecord, shown, asking};
+ghost use Rattle.jenturik_c.specs.Face.{whatOf, answeredOf, toldOf, noRecord, shown, fitted};
+ghost use Rattle.jenturik_c.specs.Face.{asking};
 ghost use Rattle.jenturik_c.specs.Face.{placeOf};
 ghost use Rattle.jenturik_c.specs.Flat.{STEP_WORDS, zeros, kindAt, ofKind, stepAt, stepsOf};
-ghost use Rattle.jenturik_c.specs.Flat.{scheduleOf};
+ghost use Rattle.jenturik_c.specs.Flat.{scheduleOf, changesOf};
 ghost use Rattle.jenturik_c.specs.Many.{lastOf};
 ghost use Rattle.jenturik_c.specs.Lent.{kept, tells, facing, runs, facingRun};
-ghost use Rattle.jenturik_c.specs.Lent.{facingLast, Stays};
+ghost use Rattle.jenturik_c.specs.Lent.{facingLast, facingCount, Stays};
 ghost use Rattle.base.specs.Lent.{was, is};
 ghost use Rattle.rules.specs.Lent.{given};
 
@@ -51,32 +53,37 @@ const UNUSED: usize = 8;
 // A kind that no step has.
 const NO_KIND: u32 = 4294967295;
 
-// What a call answers: what was done (0: refused), the code, the node.
+// What a call answers: what was done (0: refused), the code, the node, and how many colours it
+// changed.
 #[repr(C)]
 pub struct Told {
     pub what: u32,
     pub code: u32,
     pub node: u32,
+    pub changed: u32,
 }
 
-// What a schedule answers: how many steps were done, and the code that ended it, or 0.
+// What a schedule answers: how many steps were done, the code that ended it, or 0, and how many
+// colours they changed in all.
 #[repr(C)]
 pub struct Done {
     pub done: usize,
     pub code: u32,
+    pub changed: u32,
 }
 
-// What many steps of the collector answer: how many were done, and what the last one answers, or
-// the one that was refused.
+// What many steps of the collector answer: how many were done, how many colours they changed in
+// all, and what the last one answers, or the one that was refused.
 #[repr(C)]
 pub struct Last {
     pub done: usize,
-    pub what: u16,
-    pub code: u16,
-    pub node: u32,
+    pub changed: u32,
+    pub node: u16,
+    pub what: u8,
+    pub code: u8,
 }
 
-fn what(a: Answer) -> u16
+fn what(a: Answer) -> u8
     ensures { λ n. ⌜ n ≡ whatOf a ⌝ }
 {
     match a {
@@ -94,24 +101,38 @@ fn what(a: Answer) -> u16
     }
 }
 
-fn tell(a: Answer) -> Told
-    ensures { λ t. ⌜ t ≡ toldOf a ⌝ }
+fn tell(a: Answer, changed: u8) -> Told
+    ensures { λ t. ⌜ answeredOf t ≡ toldOf a ⌝ }
+    ensures { λ t. ⌜ t .changed ≡ changed ⌝ }
 {
     Told {
         what: what(a) as u32,
         code: a.code() as u32,
         node: a.node() as u32,
+        changed: changed as u32,
     }
+}
+
+// A sum in 32 bits: the largest number where it does not fit.
+fn fitted(n: usize) -> u32
+    ensures { λ r. ⌜ r ≡ fitted n ⌝ }
+{
+    if n < 4294967295 {
+        return n as u32;
+    }
+    4294967295
 }
 
 // The answer to words that are no record's.
 fn no_record() -> Told
-    ensures { λ t. ⌜ t ≡ noRecord ⌝ }
+    ensures { λ t. ⌜ answeredOf t ≡ noRecord ⌝ }
+    ensures { λ t. ⌜ t .changed ≡ 0 ⌝ }
 {
     Told {
         what: 0,
         code: 2,
         node: 0,
+        changed: 0,
     }
 }
 
@@ -128,13 +149,14 @@ pub extern "C" fn jenturik_fresh(
     ensures { λ t. ⌜ tells t left right colour words
         ≡ shown (fresh nodes slots (was left ∷ was right ∷ []) (was colour)) ⌝ }
     ensures { λ t. ⌜ true ≡ isRecord (is words) ⌝ }
+    ensures { λ t. ⌜ t .changed ≡ 0 ⌝ }
 {
     let made = fresh::fresh(left, right, colour, nodes as usize, slots as usize);
     let rec = made.rec;
     let answer = made.answer;
     let v = record_words::words_of(rec);
     *words = v;
-    tell(answer)
+    tell(answer, 0)
 }
 
 // A table with the edges of two lists; the words are written whatever they were.
@@ -153,6 +175,7 @@ pub extern "C" fn jenturik_load(
         ≡ shown (load nodes slots (was lefts ∷ was rights ∷ []) (was left ∷ was right ∷ [])
         (was colour)) ⌝ }
     ensures { λ t. ⌜ true ≡ isRecord (is words) ⌝ }
+    ensures { λ t. ⌜ t .changed ≡ 0 ⌝ }
 {
     let made = load::load(
         lefts,
@@ -167,7 +190,7 @@ pub extern "C" fn jenturik_load(
     let answer = made.answer;
     let v = record_words::words_of(rec);
     *words = v;
-    tell(answer)
+    tell(answer, 0)
 }
 
 // Names the node at a place.
@@ -183,6 +206,8 @@ pub extern "C" fn jenturik_look(
 ) -> Told
     ensures { λ t. ⌜ tells t (kept left) (kept right) (kept colour) (kept words)
         ≡ facing (step (looking (placeOf slot count word))) left right colour words ⌝ }
+    ensures { λ t. ⌜ t .changed
+        ≡ facingCount (changes (looking (placeOf slot count word))) left right colour words ⌝ }
 {
     let w = *words;
     if !record_words::is_record(w) {
@@ -191,7 +216,8 @@ pub extern "C" fn jenturik_look(
     let p = Place { slot, count, word };
     let made = editor::look(left, right, colour, record_words::record_of(w), p);
     let answer = made.answer;
-    tell(answer)
+    let changed = made.changed;
+    tell(answer, changed)
 }
 
 // How many nodes some slot reaches; nothing is written.
@@ -204,13 +230,14 @@ pub extern "C" fn jenturik_in_use(
 ) -> Told
     ensures { λ t. ⌜ tells t (kept left) (kept right) (kept colour) (kept words)
         ≡ facing (asking inUse) left right colour words ⌝ }
+    ensures { λ t. ⌜ t .changed ≡ 0 ⌝ }
 {
     let w = *words;
     if !record_words::is_record(w) {
         return no_record();
     }
     let answer = in_use::in_use(left, right, colour, record_words::record_of(w));
-    tell(answer)
+    tell(answer, 0)
 }
 
 // Points the source's edge on a side to the target, whose shade is owed.
@@ -232,6 +259,9 @@ pub extern "C" fn jenturik_link(
         ≡ facing (step (linking (placeOf slot count word) side (placeOf toslot tocount toword)))
         left right colour words ⌝ }
     ensures { λ t. ⌜ Stays words ⌝ }
+    ensures { λ t. ⌜ t .changed
+        ≡ facingCount (changes (linking (placeOf slot count word) side
+        (placeOf toslot tocount toword))) left right colour words ⌝ }
 {
     let w = *words;
     if !record_words::is_record(w) {
@@ -246,9 +276,10 @@ pub extern "C" fn jenturik_link(
     let made = editor::link(left, right, colour, record_words::record_of(w), p, side, q);
     let rec = made.rec;
     let answer = made.answer;
+    let changed = made.changed;
     let v = record_words::words_of(rec);
     *words = v;
-    tell(answer)
+    tell(answer, changed)
 }
 
 // Shades the node owed.
@@ -262,6 +293,7 @@ pub extern "C" fn jenturik_shade(
     ensures { λ t. ⌜ tells t (kept left) (kept right) colour words
         ≡ facing (step shading) left right colour words ⌝ }
     ensures { λ t. ⌜ Stays words ⌝ }
+    ensures { λ t. ⌜ t .changed ≡ facingCount (changes shading) left right colour words ⌝ }
 {
     let w = *words;
     if !record_words::is_record(w) {
@@ -270,9 +302,10 @@ pub extern "C" fn jenturik_shade(
     let made = editor::shade(left, right, colour, record_words::record_of(w));
     let rec = made.rec;
     let answer = made.answer;
+    let changed = made.changed;
     let v = record_words::words_of(rec);
     *words = v;
-    tell(answer)
+    tell(answer, changed)
 }
 
 // Points the source's edge on a side to the first free node.
@@ -290,6 +323,8 @@ pub extern "C" fn jenturik_take(
     ensures { λ t. ⌜ tells t left right colour words
         ≡ facing (step (taking (placeOf slot count word) side)) left right colour words ⌝ }
     ensures { λ t. ⌜ Stays words ⌝ }
+    ensures { λ t. ⌜ t .changed
+        ≡ facingCount (changes (taking (placeOf slot count word) side)) left right colour words ⌝ }
 {
     let w = *words;
     if !record_words::is_record(w) {
@@ -299,9 +334,10 @@ pub extern "C" fn jenturik_take(
     let made = take::take(left, right, colour, record_words::record_of(w), p, side);
     let rec = made.rec;
     let answer = made.answer;
+    let changed = made.changed;
     let v = record_words::words_of(rec);
     *words = v;
-    tell(answer)
+    tell(answer, changed)
 }
 
 // One step of the collector.
@@ -315,6 +351,7 @@ pub extern "C" fn jenturik_collect(
     ensures { λ t. ⌜ tells t left right colour words
         ≡ facing (step collecting) left right colour words ⌝ }
     ensures { λ t. ⌜ Stays words ⌝ }
+    ensures { λ t. ⌜ t .changed ≡ facingCount (changes collecting) left right colour words ⌝ }
 {
     let w = *words;
     if !record_words::is_record(w) {
@@ -323,9 +360,10 @@ pub extern "C" fn jenturik_collect(
     let made = collector::collect(left, right, colour, record_words::record_of(w));
     let rec = made.rec;
     let answer = made.answer;
+    let changed = made.changed;
     let v = record_words::words_of(rec);
     *words = v;
-    tell(answer)
+    tell(answer, changed)
 }
 
 // n steps of the collector, or as many as are done before one is refused.
@@ -341,14 +379,17 @@ pub extern "C" fn jenturik_collect_many(
         ≡ facingRun (schedule (collects n)) left right colour words ⌝ }
     ensures { λ r. ⌜ lastOf r ≡ facingLast n left right colour words ⌝ }
     ensures { λ r. ⌜ Stays words ⌝ }
+    ensures { λ r. ⌜ r .changed
+        ≡ facingCount (λ s. fitted (changesAll (collects n) s)) left right colour words ⌝ }
 {
     let w = *words;
     if !record_words::is_record(w) {
         return Last {
             done: 0,
+            changed: 0,
+            node: 0,
             what: 0,
             code: 2,
-            node: 0,
         };
     }
     let many = batch::collect_many(left, right, colour, record_words::record_of(w), n);
@@ -358,9 +399,10 @@ pub extern "C" fn jenturik_collect_many(
     *words = v;
     Last {
         done: many.done,
+        changed: fitted(many.changed),
+        node: answer.node(),
         what: what(answer),
-        code: answer.code() as u16,
-        node: answer.node() as u32,
+        code: answer.code(),
     }
 }
 
@@ -423,6 +465,7 @@ fn step_at(steps: &[u32], i: usize) -> Step
 fn follow(steps: &[u32], left: &mut [u16], right: &mut [u16], colour: &mut [u8], x: Record) -> Ran
     ensures { λ r. ⌜ ran r (is left) (is right) (is colour)
         ≡ schedule (stepsOf (was steps)) (given left right colour x) ⌝ }
+    ensures { λ r. ⌜ r .changed ≡ changesAll (stepsOf (was steps)) (given left right colour x) ⌝ }
 {
     let mut g = schedule::begin(
         left.len(),
@@ -438,6 +481,7 @@ fn follow(steps: &[u32], left: &mut [u16], right: &mut [u16], colour: &mut [u8],
     Ran {
         done: g.at,
         code: g.code,
+        changed: g.changed,
         rec,
     }
 }
@@ -452,11 +496,13 @@ fn schedule_of(
 ) -> Ran
     ensures { λ r. ⌜ ran r (is left) (is right) (is colour)
         ≡ scheduleOf (was steps) (given left right colour x) ⌝ }
+    ensures { λ r. ⌜ r .changed ≡ changesOf (was steps) (given left right colour x) ⌝ }
 {
     if steps.len() % STEP_WORDS != 0 {
         return Ran {
             done: 0,
             code: calls::unreadable(left.len(), right.len(), colour.len(), x),
+            changed: 0,
             rec: x,
         };
     }
@@ -475,10 +521,16 @@ pub extern "C" fn jenturik_schedule(
     ensures { λ r. ⌜ runs (r .done) (r .code) left right colour words
         ≡ facingRun (scheduleOf (was steps)) left right colour words ⌝ }
     ensures { λ r. ⌜ Stays words ⌝ }
+    ensures { λ r. ⌜ r .changed
+        ≡ facingCount (λ s. fitted (changesOf (was steps) s)) left right colour words ⌝ }
 {
     let w = *words;
     if !record_words::is_record(w) {
-        return Done { done: 0, code: 2 };
+        return Done {
+            done: 0,
+            code: 2,
+            changed: 0,
+        };
     }
     let ran = schedule_of(steps, left, right, colour, record_words::record_of(w));
     let rec = ran.rec;
@@ -487,5 +539,6 @@ pub extern "C" fn jenturik_schedule(
     Done {
         done: ran.done,
         code: ran.code as u32,
+        changed: fitted(ran.changed),
     }
 }

@@ -233,11 +233,13 @@ fn load_table(
     ensures { λ d. ⌜ leaves d left right colour
         ≡ loadGood m r (was lefts ∷ was rights ∷ [])
         (was left ∷ was right ∷ []) (was colour) ⌝ }
+    ensures { λ d. ⌜ d .changed ≡ 0 ⌝ }
 {
     let answer = judge(lefts, rights, m, r);
     if answer.code() != 0 {
         return Made {
             answer,
+            changed: 0,
             rec: Record::fresh(0, 0, 0),
         };
     }
@@ -246,6 +248,7 @@ fn load_table(
     fresh::whiten(colour);
     Made {
         answer,
+        changed: 0,
         rec: Record::fresh(m, r, answer.node()),
     }
 }
@@ -273,6 +276,7 @@ fn load_good(
     ensures { λ d. ⌜ leaves d left right colour
         ≡ loadGood m r (was lefts ∷ was rights ∷ [])
         (was left ∷ was right ∷ []) (was colour) ⌝ }
+    ensures { λ d. ⌜ d .changed ≡ 0 ⌝ }
 {
     let mut l = [0u16; rules::MOST_NODES];
     let mut g = [0u16; rules::MOST_NODES];
@@ -287,6 +291,7 @@ fn refused(code: u8, node: u16) -> Made
     requires { ⌜ 0 < code ⌝ }
     ensures { λ d. ⌜ ((m r : ℕ) (given edges : List (List ℕ)) (colours : List ℕ)
         → handed d edges colours ≡ loadBy m r given edges colours (refused code node)) ⌝ }
+    ensures { λ d. ⌜ d .changed ≡ 0 ⌝ }
 {
     rules::refusal(code, node, Record::fresh(0, 0, 0))
 }
@@ -304,6 +309,7 @@ pub fn load(
 ) -> Made
     ensures { λ d. ⌜ leaves d left right colour
         ≡ load m r (was lefts ∷ was rights ∷ []) (was left ∷ was right ∷ []) (was colour) ⌝ }
+    ensures { λ d. ⌜ d .changed ≡ 0 ⌝ }
 {
     if !size_ok(
         m,

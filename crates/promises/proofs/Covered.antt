@@ -33,7 +33,7 @@ pub fresh-leaves : (κs : _) (a : _) (r : _) (s : _) (x : Record) → fresh.Lear
     ≡ rattle .leaves (Fresh (a .1 .1 .1 .0) (a .1 .1 .1 .1 .0))
     (lent (now (a .0)) (now (a .1 .0)) (now (a .1 .1 .0)) x)
 unfolding left-by
-fresh-leaves κs a r s x = lent-by
+fresh-leaves κs a r s x p = lent-by (p .0)
 
 -- nor is Load
 pub load-leaves : (κs : _) (a : _) (r : _) (s : _) (x : Record) → load.Learnt κs a r s
@@ -42,49 +42,49 @@ pub load-leaves : (κs : _) (a : _) (r : _) (s : _) (x : Record) → load.Learnt
     (now (a .1 .0)))
     (lent (now (a .1 .1 .0)) (now (a .1 .1 .1 .0)) (now (a .1 .1 .1 .1 .0)) x)
 unfolding left-by
-load-leaves κs a r s x = lent-by
+load-leaves κs a r s x p = lent-by (p .0)
 
 pub look-leaves : (κs : _) (a : _) (r : _) (s : _) → look.Learnt κs a r s
     → lent (now (a .0)) (now (a .1 .0)) (now (a .1 .1 .0)) (r .rec)
     ≡ rattle .leaves (Look (a .1 .1 .1 .1 .0))
     (lent (now (a .0)) (now (a .1 .0)) (now (a .1 .1 .0)) (a .1 .1 .1 .0))
 unfolding left-by
-look-leaves κs a r s = lent-by
+look-leaves κs a r s p = lent-by (p .0)
 
 pub link-leaves : (κs : _) (a : _) (r : _) (s : _) → link.Learnt κs a r s
     → lent (now (s .0)) (now (s .1 .0)) (now (a .1 .1 .0)) (r .rec)
     ≡ rattle .leaves (Link (a .1 .1 .1 .1 .0) (a .1 .1 .1 .1 .1 .0) (a .1 .1 .1 .1 .1 .1 .0))
     (lent (now (a .0)) (now (a .1 .0)) (now (a .1 .1 .0)) (a .1 .1 .1 .0))
 unfolding left-by
-link-leaves κs a r s = lent-by
+link-leaves κs a r s p = lent-by (p .0)
 
 pub shade-leaves : (κs : _) (a : _) (r : _) (s : _) → shade.Learnt κs a r s
     → lent (now (a .0)) (now (a .1 .0)) (now (s .1 .1 .0)) (r .rec)
     ≡ rattle .leaves Shade
     (lent (now (a .0)) (now (a .1 .0)) (now (a .1 .1 .0)) (a .1 .1 .1 .0))
 unfolding left-by
-shade-leaves κs a r s = lent-by
+shade-leaves κs a r s p = lent-by (p .0)
 
 pub take-leaves : (κs : _) (a : _) (r : _) (s : _) → take.Learnt κs a r s
     → lent (now (s .0)) (now (s .1 .0)) (now (s .1 .1 .0)) (r .rec)
     ≡ rattle .leaves (Take (a .1 .1 .1 .1 .0) (a .1 .1 .1 .1 .1 .0))
     (lent (now (a .0)) (now (a .1 .0)) (now (a .1 .1 .0)) (a .1 .1 .1 .0))
 unfolding left-by
-take-leaves κs a r s = lent-by
+take-leaves κs a r s p = lent-by (p .0)
 
 pub collect-leaves : (κs : _) (a : _) (r : _) (s : _) → collect.Learnt κs a r s
     → lent (now (s .0)) (now (s .1 .0)) (now (s .1 .1 .0)) (r .rec)
     ≡ rattle .leaves Collect
     (lent (now (a .0)) (now (a .1 .0)) (now (a .1 .1 .0)) (a .1 .1 .1 .0))
 unfolding left-by
-collect-leaves κs a r s = lent-by
+collect-leaves κs a r s p = lent-by (p .0)
 
 pub step-leaves : (κs : _) (a : _) (r : _) (s : _) → step.Learnt κs a r s
     → lent (now (s .0)) (now (s .1 .0)) (now (s .1 .1 .0)) (r .rec)
     ≡ rattle .leaves (Any (a .1 .1 .1 .1 .0))
     (lent (now (a .0)) (now (a .1 .0)) (now (a .1 .1 .0)) (a .1 .1 .1 .0))
 unfolding left-by
-step-leaves κs a r s = lent-by
+step-leaves κs a r s p = lent-by (p .0)
 
 -- In use hands back no record: the one given is kept
 pub in-use-leaves : (κs : _) (a : _) (r : _) (s : _) → in-use.Learnt κs a r s

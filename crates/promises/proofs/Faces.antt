@@ -4,9 +4,8 @@ use mathlib.Core.Path.{_≡_, ap}
 use mathlib.Core.List.{List}
 use Prim.Native.Nat.{ℕ}
 use denote.Ref.{now}
-use Rattle.jenturik_c.specs.Face.{Faced, faced, placeOf}
+use Rattle.jenturik_c.specs.Face.{answeredOf, Faced, faced, placeOf}
 use Rattle.jenturik_c.specs.Many.{facedRun, lastOf}
-use Rattle.jenturik_c.specs.declared.Told.{Told}
 use Rattle.jenturik_c.proofs.jenturik_fresh.Reads as c-fresh
 use Rattle.jenturik_c.proofs.jenturik_load.Reads as c-load
 use Rattle.jenturik_c.proofs.jenturik_look.Reads as c-look
@@ -26,50 +25,70 @@ use Rattle.promises.proofs.Determined.{determined}
 
 pub c-fresh-determined : (κs : _) (a : _) (r r′ : _) (s s′ : _)
     → c-fresh.Learnt κs a r s → c-fresh.Learnt κs a r′ s′
-    → faced r (now (s .0)) (now (s .1 .0)) (now (s .1 .1 .0)) (now (s .1 .1 .1 .0))
-    ≡ faced r′ (now (s′ .0)) (now (s′ .1 .0)) (now (s′ .1 .1 .0)) (now (s′ .1 .1 .1 .0))
-c-fresh-determined κs a r r′ s s′ p q = determined (p .0) (q .0)
+    → (faced (answeredOf r) (now (s .0)) (now (s .1 .0)) (now (s .1 .1 .0)) (now (s .1 .1 .1 .0))
+    ≡ faced (answeredOf r′) (now (s′ .0)) (now (s′ .1 .0)) (now (s′ .1 .1 .0))
+    (now (s′ .1 .1 .1 .0)))
+    × (r .changed ≡ r′ .changed)
+c-fresh-determined κs a r r′ s s′ p q =
+    (determined (p .0) (q .0), determined (p .1 .1) (q .1 .1))
 
 pub c-load-determined : (κs : _) (a : _) (r r′ : _) (s s′ : _)
     → c-load.Learnt κs a r s → c-load.Learnt κs a r′ s′
-    → faced r (now (s .0)) (now (s .1 .0)) (now (s .1 .1 .0)) (now (s .1 .1 .1 .0))
-    ≡ faced r′ (now (s′ .0)) (now (s′ .1 .0)) (now (s′ .1 .1 .0)) (now (s′ .1 .1 .1 .0))
-c-load-determined κs a r r′ s s′ p q = determined (p .0) (q .0)
+    → (faced (answeredOf r) (now (s .0)) (now (s .1 .0)) (now (s .1 .1 .0)) (now (s .1 .1 .1 .0))
+    ≡ faced (answeredOf r′) (now (s′ .0)) (now (s′ .1 .0)) (now (s′ .1 .1 .0))
+    (now (s′ .1 .1 .1 .0)))
+    × (r .changed ≡ r′ .changed)
+c-load-determined κs a r r′ s s′ p q =
+    (determined (p .0) (q .0), determined (p .1 .1) (q .1 .1))
 
 pub c-look-determined : (κs : _) (a : _) (r r′ : _) (s s′ : _)
     → c-look.Learnt κs a r s → c-look.Learnt κs a r′ s′
-    → _≡_ {A = Told} r r′
-c-look-determined κs a r r′ s s′ p q = ap (λ (f : Faced). f .told) (determined p q)
+    → (answeredOf r ≡ answeredOf r′) × (r .changed ≡ r′ .changed)
+c-look-determined κs a r r′ s s′ p q =
+    (ap (λ (f : Faced). f .told) (determined (p .0) (q .0)), determined (p .1) (q .1))
 
 -- In use writes nothing either
 pub c-in-use-determined : (κs : _) (a : _) (r r′ : _) (s s′ : _)
     → c-in-use.Learnt κs a r s → c-in-use.Learnt κs a r′ s′
-    → _≡_ {A = Told} r r′
-c-in-use-determined κs a r r′ s s′ p q = ap (λ (f : Faced). f .told) (determined p q)
+    → (answeredOf r ≡ answeredOf r′) × (r .changed ≡ r′ .changed)
+c-in-use-determined κs a r r′ s s′ p q =
+    (ap (λ (f : Faced). f .told) (determined (p .0) (q .0)), determined (p .1) (q .1))
 
 pub c-link-determined : (κs : _) (a : _) (r r′ : _) (s s′ : _)
     → c-link.Learnt κs a r s → c-link.Learnt κs a r′ s′
-    → faced r (now (s .0)) (now (s .1 .0)) (now (a .1 .1 .0)) (now (s .1 .1 .1 .0))
-    ≡ faced r′ (now (s′ .0)) (now (s′ .1 .0)) (now (a .1 .1 .0)) (now (s′ .1 .1 .1 .0))
-c-link-determined κs a r r′ s s′ p q = determined (p .0) (q .0)
+    → (faced (answeredOf r) (now (s .0)) (now (s .1 .0)) (now (a .1 .1 .0)) (now (s .1 .1 .1 .0))
+    ≡ faced (answeredOf r′) (now (s′ .0)) (now (s′ .1 .0)) (now (a .1 .1 .0))
+    (now (s′ .1 .1 .1 .0)))
+    × (r .changed ≡ r′ .changed)
+c-link-determined κs a r r′ s s′ p q =
+    (determined (p .0) (q .0), determined (p .1 .1) (q .1 .1))
 
 pub c-shade-determined : (κs : _) (a : _) (r r′ : _) (s s′ : _)
     → c-shade.Learnt κs a r s → c-shade.Learnt κs a r′ s′
-    → faced r (now (a .0)) (now (a .1 .0)) (now (s .1 .1 .0)) (now (s .1 .1 .1 .0))
-    ≡ faced r′ (now (a .0)) (now (a .1 .0)) (now (s′ .1 .1 .0)) (now (s′ .1 .1 .1 .0))
-c-shade-determined κs a r r′ s s′ p q = determined (p .0) (q .0)
+    → (faced (answeredOf r) (now (a .0)) (now (a .1 .0)) (now (s .1 .1 .0)) (now (s .1 .1 .1 .0))
+    ≡ faced (answeredOf r′) (now (a .0)) (now (a .1 .0)) (now (s′ .1 .1 .0))
+    (now (s′ .1 .1 .1 .0)))
+    × (r .changed ≡ r′ .changed)
+c-shade-determined κs a r r′ s s′ p q =
+    (determined (p .0) (q .0), determined (p .1 .1) (q .1 .1))
 
 pub c-take-determined : (κs : _) (a : _) (r r′ : _) (s s′ : _)
     → c-take.Learnt κs a r s → c-take.Learnt κs a r′ s′
-    → faced r (now (s .0)) (now (s .1 .0)) (now (s .1 .1 .0)) (now (s .1 .1 .1 .0))
-    ≡ faced r′ (now (s′ .0)) (now (s′ .1 .0)) (now (s′ .1 .1 .0)) (now (s′ .1 .1 .1 .0))
-c-take-determined κs a r r′ s s′ p q = determined (p .0) (q .0)
+    → (faced (answeredOf r) (now (s .0)) (now (s .1 .0)) (now (s .1 .1 .0)) (now (s .1 .1 .1 .0))
+    ≡ faced (answeredOf r′) (now (s′ .0)) (now (s′ .1 .0)) (now (s′ .1 .1 .0))
+    (now (s′ .1 .1 .1 .0)))
+    × (r .changed ≡ r′ .changed)
+c-take-determined κs a r r′ s s′ p q =
+    (determined (p .0) (q .0), determined (p .1 .1) (q .1 .1))
 
 pub c-collect-determined : (κs : _) (a : _) (r r′ : _) (s s′ : _)
     → c-collect.Learnt κs a r s → c-collect.Learnt κs a r′ s′
-    → faced r (now (s .0)) (now (s .1 .0)) (now (s .1 .1 .0)) (now (s .1 .1 .1 .0))
-    ≡ faced r′ (now (s′ .0)) (now (s′ .1 .0)) (now (s′ .1 .1 .0)) (now (s′ .1 .1 .1 .0))
-c-collect-determined κs a r r′ s s′ p q = determined (p .0) (q .0)
+    → (faced (answeredOf r) (now (s .0)) (now (s .1 .0)) (now (s .1 .1 .0)) (now (s .1 .1 .1 .0))
+    ≡ faced (answeredOf r′) (now (s′ .0)) (now (s′ .1 .0)) (now (s′ .1 .1 .0))
+    (now (s′ .1 .1 .1 .0)))
+    × (r .changed ≡ r′ .changed)
+c-collect-determined κs a r r′ s s′ p q =
+    (determined (p .0) (q .0), determined (p .1 .1) (q .1 .1))
 
 pub c-many-determined : (κs : _) (a : _) (r r′ : _) (s s′ : _)
     → c-many.Learnt κs a r s → c-many.Learnt κs a r′ s′
@@ -77,16 +96,22 @@ pub c-many-determined : (κs : _) (a : _) (r r′ : _) (s s′ : _)
     (now (s .0)) (now (s .1 .0)) (now (s .1 .1 .0)) (now (s .1 .1 .1 .0))
     ≡ facedRun (r′ .done) (r′ .code)
     (now (s′ .0)) (now (s′ .1 .0)) (now (s′ .1 .1 .0)) (now (s′ .1 .1 .1 .0)))
-    × (lastOf r ≡ lastOf r′)
-c-many-determined κs a r r′ s s′ p q = (determined (p .0) (q .0), determined (p .1 .0) (q .1 .0))
+    × (lastOf r ≡ lastOf r′) × (r .changed ≡ r′ .changed)
+c-many-determined κs a r r′ s s′ p q = (
+  determined (p .0) (q .0),
+  determined (p .1 .0) (q .1 .0),
+  determined (p .1 .1 .1) (q .1 .1 .1),
+)
 
 pub c-schedule-determined : (κs : _) (a : _) (r r′ : _) (s s′ : _)
     → c-schedule.Learnt κs a r s → c-schedule.Learnt κs a r′ s′
-    → facedRun (r .done) (r .code)
+    → (facedRun (r .done) (r .code)
     (now (s .0)) (now (s .1 .0)) (now (s .1 .1 .0)) (now (s .1 .1 .1 .0))
     ≡ facedRun (r′ .done) (r′ .code)
-    (now (s′ .0)) (now (s′ .1 .0)) (now (s′ .1 .1 .0)) (now (s′ .1 .1 .1 .0))
-c-schedule-determined κs a r r′ s s′ p q = determined (p .0) (q .0)
+    (now (s′ .0)) (now (s′ .1 .0)) (now (s′ .1 .1 .0)) (now (s′ .1 .1 .1 .0)))
+    × (r .changed ≡ r′ .changed)
+c-schedule-determined κs a r r′ s s′ p q =
+    (determined (p .0) (q .0), determined (p .1 .1) (q .1 .1))
 
 -- the steps of ./bench
 pub c-steps-determined : (κs : _) (a : _) (r r′ : _) (s s′ : _)
@@ -119,14 +144,14 @@ pub c-look-leaves : (κs : _) (a : _) (r : _) (s : _) → c-look.Learnt κs a r 
     (Look (placeOf (a .1 .1 .1 .1 .0) (a .1 .1 .1 .1 .1 .0) (a .1 .1 .1 .1 .1 .1 .0)))
     (lent (now (a .0)) (now (a .1 .0)) (now (a .1 .1 .0)) (now (a .1 .1 .1 .0)))
 unfolding left-by
-c-look-leaves κs a r s p = ap left-in p
+c-look-leaves κs a r s p = ap left-in (p .0)
 
 pub c-in-use-leaves : (κs : _) (a : _) (r : _) (s : _) → c-in-use.Learnt κs a r s
     → lent (now (a .0)) (now (a .1 .0)) (now (a .1 .1 .0)) (now (a .1 .1 .1 .0))
     ≡ words .leaves InUse
     (lent (now (a .0)) (now (a .1 .0)) (now (a .1 .1 .0)) (now (a .1 .1 .1 .0)))
 unfolding left-by
-c-in-use-leaves κs a r s p = ap left-in p
+c-in-use-leaves κs a r s p = ap left-in (p .0)
 
 pub c-link-leaves : (κs : _) (a : _) (r : _) (s : _) → c-link.Learnt κs a r s
     → lent (now (s .0)) (now (s .1 .0)) (now (a .1 .1 .0)) (now (s .1 .1 .1 .0))

@@ -15,7 +15,7 @@ use Rattle.in_place.proofs.collect_in_place as frame
 use Rattle.schedule.proofs.schedule as sched
 use Rattle.promises.specs.CallRuns.{lent}
 use Rattle.promises.specs.Calls.{CollectInPlace, Schedule, left-by, rattle}
-use Rattle.promises.proofs.Determined.{determined}
+use Rattle.promises.proofs.Determined.{both}
 use Rattle.promises.proofs.Covered.{lent-by, lent-by-run}
 
 -- what a caller learns of a call: κs the lifetimes, a the arguments, r what it hands back, s what
@@ -36,17 +36,18 @@ ScheduleLearnt κs a r s =
 
 pub collect-in-place-determined : (κs : _) (a : _) (r r′ : _) (s s′ : _) → FrameLearnt κs a r s
     → FrameLearnt κs a r′ s′
-    → outcome (record { answer = r; rec = now (s .1 .1 .1 .0) }) (now (s .0)) (now (s .1 .0))
-    (now (s .1 .1 .0))
-    ≡ outcome (record { answer = r′; rec = now (s′ .1 .1 .1 .0) }) (now (s′ .0)) (now (s′ .1 .0))
-    (now (s′ .1 .1 .0))
-collect-in-place-determined κs a r r′ s s′ = determined
+    → (outcome (record { answer = r .answer; changed = r .changed; rec = now (s .1 .1 .1 .0) })
+    (now (s .0)) (now (s .1 .0)) (now (s .1 .1 .0))
+    ≡ outcome (record { answer = r′ .answer; changed = r′ .changed; rec = now (s′ .1 .1 .1 .0) })
+    (now (s′ .0)) (now (s′ .1 .0)) (now (s′ .1 .1 .0))) × (r .changed ≡ r′ .changed)
+collect-in-place-determined κs a r r′ s s′ = both
 
 pub schedule-determined : (κs : _) (a : _) (r r′ : _) (s s′ : _) → ScheduleLearnt κs a r s
     → ScheduleLearnt κs a r′ s′
-    → ran r (now (s .1 .0)) (now (s .1 .1 .0)) (now (s .1 .1 .1 .0))
-    ≡ ran r′ (now (s′ .1 .0)) (now (s′ .1 .1 .0)) (now (s′ .1 .1 .1 .0))
-schedule-determined κs a r r′ s s′ = determined
+    → (ran r (now (s .1 .0)) (now (s .1 .1 .0)) (now (s .1 .1 .1 .0))
+    ≡ ran r′ (now (s′ .1 .0)) (now (s′ .1 .1 .0)) (now (s′ .1 .1 .1 .0)))
+    × (r .changed ≡ r′ .changed)
+schedule-determined κs a r r′ s s′ = both
 
 -- what each leaves is what specs/Calls.antt says of it
 pub collect-in-place-leaves : (κs : _) (a : _) (r : _) (s : _) → FrameLearnt κs a r s
@@ -54,11 +55,11 @@ pub collect-in-place-leaves : (κs : _) (a : _) (r : _) (s : _) → FrameLearnt 
     ≡ rattle .leaves CollectInPlace
     (lent (now (a .0)) (now (a .1 .0)) (now (a .1 .1 .0)) (now (a .1 .1 .1 .0)))
 unfolding left-by
-collect-in-place-leaves κs a r s = lent-by
+collect-in-place-leaves κs a r s p = lent-by (p .0)
 
 pub schedule-leaves : (κs : _) (a : _) (r : _) (s : _) → ScheduleLearnt κs a r s
     → lent (now (s .1 .0)) (now (s .1 .1 .0)) (now (s .1 .1 .1 .0)) (r .rec)
     ≡ rattle .leaves (Schedule (now (a .0)))
     (lent (now (a .1 .0)) (now (a .1 .1 .0)) (now (a .1 .1 .1 .0)) (a .1 .1 .1 .1 .0))
 unfolding left-by
-schedule-leaves κs a r s = lent-by-run
+schedule-leaves κs a r s p = lent-by-run (p .0)

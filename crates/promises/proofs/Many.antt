@@ -12,7 +12,12 @@ pub collect-many-determined : (κs : _) (a : _) (r r′ : _) (s s′ : _)
     → collect-many.Learnt κs a r s → collect-many.Learnt κs a r′ s′
     → (many r (now (s .0)) (now (s .1 .0)) (now (s .1 .1 .0))
     ≡ many r′ (now (s′ .0)) (now (s′ .1 .0)) (now (s′ .1 .1 .0))) × (r .answer ≡ r′ .answer)
-collect-many-determined κs a r r′ s s′ p q = (determined (p .0) (q .0), determined (p .1) (q .1))
+    × (r .changed ≡ r′ .changed)
+collect-many-determined κs a r r′ s s′ p q = (
+  determined (p .0 .0) (q .0 .0),
+  determined (p .0 .1) (q .0 .1),
+  determined (p .1) (q .1),
+)
 
 -- what it leaves is what specs/Calls.antt says of it
 pub collect-many-leaves : (κs : _) (a : _) (r : _) (s : _) → collect-many.Learnt κs a r s
@@ -20,4 +25,4 @@ pub collect-many-leaves : (κs : _) (a : _) (r : _) (s : _) → collect-many.Lea
     ≡ rattle .leaves (CollectMany (a .1 .1 .1 .1 .0))
     (lent (now (a .0)) (now (a .1 .0)) (now (a .1 .1 .0)) (a .1 .1 .1 .0))
 unfolding left-by
-collect-many-leaves κs a r s e = lent-by-run (e .0)
+collect-many-leaves κs a r s e = lent-by-run (e .0 .0)

@@ -7,6 +7,7 @@ pub mod Editor
 pub mod Collector
 pub mod Steps
 pub mod Schedules
+pub mod Changes
 pub mod Meet
 pub mod Load
 pub mod InUse

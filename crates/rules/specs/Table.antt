@@ -58,7 +58,7 @@ refused code node = Refused code node
 
 -- [Answers 4] a refusal: what a function hands back that refuses; the record stays
 abbrev pub refusal : ℕ → ℕ → Record → Made
-refusal code node x = record { answer = refused code node; rec = x }
+refusal code node x = record { answer = refused code node; changed = 0; rec = x }
 
 -- [Answers 4] refused: the state stays
 abbrev pub refuse : State → ℕ → ℕ → Outcome

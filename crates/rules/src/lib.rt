@@ -70,10 +70,17 @@ pub enum Answer {
     Refused(u8, u16),
 }
 
-// What every call hands back.
+// What every call hands back; `changed` is the number of colours that it changed.
 pub struct Made {
     pub answer: Answer,
+    pub changed: u8,
     pub rec: Record,
+}
+
+// What a call hands back whose record is lent.
+pub struct Told {
+    pub answer: Answer,
+    pub changed: u8,
 }
 
 // A slot, a count of turns and the turns, lowest bit first.
@@ -101,10 +108,12 @@ pub struct Step {
     pub toword: u32,
 }
 
-// What a run of steps hands back: how many were done, the code that ended it or 0, and the record.
+// What a run of steps hands back: how many were done, the code that ended it or 0, how many colours
+// they changed in all, and the record.
 pub struct Ran {
     pub done: usize,
     pub code: u8,
+    pub changed: usize,
     pub rec: Record,
 }
 
@@ -288,6 +297,7 @@ pub fn refusal(code: u8, node: u16, x: Record) -> Made
 {
     Made {
         answer: Answer::refused(code, node),
+        changed: 0,
         rec: x,
     }
 }

@@ -3,15 +3,14 @@ use Prim.Native.Nat.{ℕ, _+_, _-_, _%_, _≤_, _<_}
 use mathlib.Core.Path.{_≡_, refl}
 use mathlib.Core.List.{List}
 use lib.ListN.{length, getD, set, length-set}
-use lib.Seq.{getD-set-other}
-use borrow.Author.Tests.{eqb-true}
 use native.Mathlib.Omega.{arith}
 use Rattle.base.specs.Choice.{pick}
-use Rattle.base.proofs.Tests.{split}
 use Rattle.rules.specs.declared.Record.{Record}
 use Rattle.rules.specs.declared.Phase.the-variants.{Scan}
 use Rattle.rules.specs.Table.{State, state, shadeIn}
 use Rattle.rules.specs.Facts.{manySteps}
+use Rattle.rules.specs.Changes.{differing}
+use Rattle.rules.proofs.Changes.{two-shaded}
 use Rattle.rules.proofs.Checked.{good, inside}
 use Rattle.skim.specs.Stops.{stop, stops, NoStop}
 use Rattle.skim.proofs.Counts.{changed, counts}
@@ -19,6 +18,7 @@ use Rattle.ahead.specs.Leads.{Passes, Room, Leads}
 use Rattle.ahead.proofs.Strides.{Sized, sized, stay, on}
 use Rattle.ahead.proofs.Looks.{looks}
 use Rattle.ahead.proofs.Visits as strides
+use Rattle.ahead.proofs.Visits.{gray-kept}
 use Rattle.scanning.specs.declared.ScanAt.{ScanAt}
 use Rattle.scanning.specs.Marking.{standing, Valid, ScanLeads, CanVisit}
 
@@ -51,9 +51,9 @@ at l k c x s p =
 pub stays : (l k c : List ℕ) (x : Record) (cap : ℕ) (s : ScanAt) → Valid l k c x cap s
     → ScanLeads l k c x cap s c s
 stays l k c x cap s p = record {
-  low =
-      omega arith;
-  leads = stay _ _ (omega arith) (p .passes);
+  low = omega arith;
+  counted = omega arith;
+  leads = stay _ _ _ (omega arith) (omega arith) (p .passes);
   valid = p;
 }
 
@@ -63,12 +63,13 @@ pub goes-on : (l k c : List ℕ) (x : Record) (cap : ℕ) (s : ScanAt) (c′ : L
 goes-on l k c x cap s c′ t c″ r p q =
     let a = p .low in
     let b = q .low in
+    let v = p .counted in
+    let w = q .counted in
     record {
-      low =
-          omega arith;
-      leads = on _ _ _ _ _ _ (p .low) (q .low) (p .leads) (q .leads);
-      valid =
-          q .valid;
+      low = omega arith;
+      counted = omega arith;
+      leads = on _ _ _ _ _ _ _ _ _ a b v w (p .leads) (q .leads);
+      valid = q .valid;
     }
 
 -- e looks
@@ -76,17 +77,20 @@ pub looks-on : (l k c : List ℕ) (x : Record) (cap : ℕ) (s r : ScanAt) (e : �
     → Room x cap → NoStop c (x .m) (s .i) e → e < s .k
     → s .d + e ≤ cap → r .i ≡ (s .i + e) % x .m → r .k ≡ s .k - e
     → r .blackened ≡ s .blackened → r .d ≡ s .d + e → r .stops ≡ s .stops → r .grayed ≡ s .grayed
-    → ScanLeads l k c x cap s c r
+    → r .changed ≡ s .changed → ScanLeads l k c x cap s c r
 unfolding standing
-looks-on l k c x cap s r e p b m h q i′ k′ blackened′ d′ stops′ grayed′ =
+looks-on l k c x cap s r e p b m h q i′ k′ blackened′ d′ stops′ grayed′ changed′ =
     let z = b .steps in
     let n : r .d - s .d ≡ e = omega arith in
+    let v : r .changed - s .changed ≡ 0 = omega arith in
     let w : x .steps + (s .d + e) ≡ x .steps + s .d + e = omega arith in
-    let a : Leads (state l k c (standing x s)) (r .d - s .d) (state l k c (standing x r)) = rw
-    (n, i′, k′, blackened′, d′, w) (looks l k c (standing x s) (s .i) (s .k) (p .passes) refl e h
+    let a : Leads (state l k c (standing x s)) (r .d - s .d) (r .changed - s .changed)
+    (state l k c (standing x r)) = rw
+    (n, v, i′, k′, blackened′, d′, w) (looks l k c (standing x s) (s .i) (s .k) (p .passes) refl e h
     (omega arith) m) in
     record {
       low = omega arith;
+      counted = omega arith;
       leads = a;
       valid = record {
         passes =
@@ -95,6 +99,7 @@ looks-on l k c x cap s r e p b m h q i′ k′ blackened′ d′ stops′ grayed
         few = rw stops′ (p .few);
         most = omega (arith, p .most);
         grayed = rw grayed′ (p .grayed);
+        told = omega (arith, p .told);
       };
     }
 
@@ -108,15 +113,11 @@ pub grayed-more : (c : List ℕ) (n : ℕ) → n < length c
 unfolding stop pick
 grayed-more c n h = let w = changed c n 1 (length c) h (omega arith) in rw length-set (omega arith)
 
--- shading leaves gray gray
-gray-kept : (c : List ℕ) (n i : ℕ) → getD c i 0 ≡ 1 → getD (shadeIn c n) i 0 ≡ 1
-unfolding shadeIn
-gray-kept c n i h =
-    split (λ (a : List ℕ). getD a i 0 ≡ 1) _ _ _
-    (λ q. rw (getD-set-other c n i 1 0 (λ z. absurd (differ z (eqb-true _ _ q)))) h) (λ q. h)
-  where
-    differ : i ≡ n → getD c n 0 ≡ 0 → ⊥
-    differ z w = let y : getD c i 0 ≡ 0 = rw z w in omega arith
+-- two nodes are shaded one after the other
+pub both-counted : (c c₁ c₂ : List ℕ) (e f a b : ℕ) → e < length c → f < length c
+    → c₁ ≡ shadeIn c e → c₂ ≡ shadeIn c₁ f → a ≡ differing c c₁ → b ≡ differing c₁ c₂
+    → a + b ≡ differing c (shadeIn (shadeIn c e) f)
+both-counted c c₁ c₂ e f a b h k p q v w = rw (v, w, q, p) (two-shaded c e f h k)
 
 -- the four steps at a gray node leave one colour fewer that stops a look, but for those that they
 -- make gray
@@ -148,22 +149,26 @@ module _ (l k c : List ℕ) (x : Record) (cap : ℕ) (s : ScanAt) (p : Valid l k
       → length c′ ≡ length c → stops c′ 0 (length c′) + 1 ≤ stops c 0 (length c) + n → n ≤ 2 → r .i
       ≡ (s .i + 1) % x .m → r .k ≡ x .m
       → r .blackened ≡ s .blackened + 1 → r .d ≡ s .d + 4 → r .stops ≡ s .stops + n - 1
-      → r .grayed < x .m
+      → r .grayed < x .m → r .changed ≡ s .changed + n + 1
+      → n ≡ differing c (shadeIn (shadeIn c (getD l (s .i) 0)) (getD k (s .i) 0))
       → ScanLeads l k c x cap s c′ r
   unfolding standing
-  visits b r c′ n e len f q i′ k′ blackened′ d′ stops′ grayed′ =
+  visits b r c′ n e len f q i′ k′ blackened′ d′ stops′ grayed′ changed′ count =
       let g = at l k c x s (p .passes) in
       let z = b .steps in
       let y = w .room in
       let t : r .d - s .d ≡ 4 = omega arith in
+      let u : r .changed - s .changed ≡ n + 1 = omega arith in
       let o : x .steps + (s .d + 4) ≡ x .steps + s .d + 4 = omega arith in
       let v = rw (len, g .sizes .colours) at f in
-      let a : Leads (state l k c (standing x s)) (r .d - s .d) (state l k c′ (standing x r)) =
-      rw (t, i′, k′, blackened′, d′, o, e)
+      let a : Leads (state l k c (standing x s)) (r .d - s .d) (r .changed - s .changed)
+      (state l k c′ (standing x r)) =
+      rw (t, u, count, i′, k′, blackened′, d′, o, e)
       (strides.visits l k c (standing x s) (s .i) (s .k) (p .passes) refl (w .gray) (w .left)
       (w .right) (omega arith) (w .blackened)) in
       record {
         low = omega arith;
+        counted = omega arith;
         leads = a;
         valid = record {
           passes =
@@ -173,13 +178,15 @@ module _ (l k c : List ℕ) (x : Record) (cap : ℕ) (s : ScanAt) (p : Valid l k
           most = omega
               (arith, p .most);
           grayed = grayed′;
+          told = omega (arith, p .told);
         };
       }
 
 -- the position that stands for x
 module _ (x : Record) (i k n : ℕ) (h : x .phase ≡ Scan i k) where
   abbrev first : ScanAt
-  first = record { i = i; k = k; blackened = x .blackened; d = 0; stops = n; grayed = 0 }
+  first =
+      record { i = i; k = k; blackened = x .blackened; d = 0; stops = n; grayed = 0; changed = 0 }
 
   start : standing x first ≡ x
   unfolding standing
@@ -197,8 +204,10 @@ module _ (x : Record) (i k n : ℕ) (h : x .phase ≡ Scan i k) where
         most = omega arith;
         grayed =
             omega arith;
+        told = omega arith;
       }
 
-  pub ends : (l r c : List ℕ) (t : State) (d : ℕ) → Leads (state l r c (standing x first)) (d - 0) t
-      → Leads (state l r c x) d t
-  ends l r c t d w = let z : d - 0 ≡ d = omega arith in rw (z, start) at w
+  pub ends : (l r c : List ℕ) (t : State) (d v : ℕ)
+      → Leads (state l r c (standing x first)) (d - 0) (v - 0) t → Leads (state l r c x) d v t
+  ends l r c t d v w =
+      let z : d - 0 ≡ d = omega arith in let y : v - 0 ≡ v = omega arith in rw (z, y, start) at w

@@ -23,13 +23,16 @@ pub record Valid (l k c : List ℕ) (x : Record) (cap : ℕ) (s : ScanAt) : Type
   pub few : stops c 0 (x .m) ≤ s .stops
   pub most : s .stops ≤ x .m + s .d
   pub grayed : s .grayed < x .m
+  pub told : s .changed ≤ s .d
 
 -- steps lead from s to r, which is known again
 pub record ScanLeads (l k c : List ℕ) (x : Record) (cap : ℕ) (s : ScanAt) (c′ : List ℕ)
     (r : ScanAt) : Type 0
   where
     pub low : s .d ≤ r .d
-    pub leads : Leads (state l k c (standing x s)) (r .d - s .d) (state l k c′ (standing x r))
+    pub counted : s .changed ≤ r .changed
+    pub leads : Leads (state l k c (standing x s)) (r .d - s .d) (r .changed - s .changed)
+        (state l k c′ (standing x r))
     pub valid : Valid l k c′ x cap r
 
 -- node i is gray, and the four steps at it can be made

@@ -9,6 +9,7 @@ ghost use lib.ListN.{length, getD, set};
 ghost use Rattle.rules.specs.Table.{mostNodes, state, shadeIn};
 ghost use Rattle.rules.specs.Facts.{manySteps};
 ghost use Rattle.rules.specs.declared.Phase.the-variants.{Scan};
+ghost use Rattle.rules.specs.Changes.{differing};
 ghost use Rattle.skim.specs.Stops.{stops, NoStop};
 ghost use Rattle.ahead.specs.Leads.{Passes, Room, Leads, CanShade};
 ghost use Rattle.scanning.specs.Marking.{standing, Valid, ScanLeads, CanVisit};
@@ -16,7 +17,7 @@ ghost use Rattle.base.specs.Lent.{was, is};
 ghost use Rattle.rules.specs.Lent.{given};
 
 // Where the marking stands: Scan i, k; nodes blackened; steps made here; how many colours stop a
-// look, at most; and the node that was made gray last.
+// look, at most; the node that was made gray last; and how many colours the steps changed.
 struct ScanAt {
     i: usize,
     k: usize,
@@ -24,6 +25,7 @@ struct ScanAt {
     d: usize,
     stops: usize,
     grayed: usize,
+    changed: usize,
 }
 
 fn standing(mut x: Record, s: ScanAt) -> Record
@@ -103,6 +105,7 @@ fn look_on(left: &[u16], right: &[u16], colour: &[u8], x: Record, cap: usize, s:
         d: s.d + e,
         stops: s.stops,
         grayed: s.grayed,
+        changed: s.changed,
     }
 }
 
@@ -150,6 +153,7 @@ fn shade_and_count(colour: &mut [u8], n: u16) -> usize
         ≡ shadeIn (was colour) n) ×
         (stops (is colour) 0 (length (is colour)) ≤ stops (was colour) 0 (length (was colour)) +
         r)) ⌝ }
+    ensures { λ r. ⌜ r ≡ differing (was colour) (is colour) ⌝ }
 {
     let at = n as usize;
     if colour[at] == 0 {
@@ -193,6 +197,7 @@ fn spread(colour: &mut [u8], i: usize, e: u16, f: u16) -> Grayed
         ≡ set (shadeIn (shadeIn (was colour) e) f) i 2) ×
         (stops (is colour) 0 (length (is colour)) + 1 ≤ stops (was colour) 0
         (length (was colour)) + r .more))) ⌝ }
+    ensures { λ r. ⌜ r .more ≡ differing (was colour) (shadeIn (shadeIn (was colour) e) f) ⌝ }
 {
     let a = shade_and_count(colour, e);
     let b = shade_and_count(colour, f);
@@ -219,6 +224,7 @@ fn visit(left: &[u16], right: &[u16], colour: &mut [u8], x: Record, cap: usize, 
         d: s.d + 4,
         stops: s.stops + grayed.more - 1,
         grayed: grayed.node,
+        changed: s.changed + grayed.more + 1,
     }
 }
 
@@ -290,7 +296,7 @@ pub fn scans(
     requires { ⌜ Passes (state (now left) (now right) (now colour) x) ⌝ }
     requires { ⌜ Room x cap ⌝ }
     requires { ⌜ x .phase ≡ Scan i k ⌝ }
-    ensures { λ r. ⌜ (r .d ≤ cap) × Leads (given left right colour x) (r .d)
+    ensures { λ r. ⌜ (r .d ≤ cap) × Leads (given left right colour x) (r .d) (r .changed)
         (state (was left) (was right) (is colour) (r .rec)) ⌝ }
 {
     let from = ScanAt {
@@ -300,10 +306,12 @@ pub fn scans(
         d: 0,
         stops: most_stops(colour, cap),
         grayed: 0,
+        changed: 0,
     };
     let s = marking(left, right, colour, x, cap, from);
     Ahead {
         d: s.d,
+        changed: s.changed,
         rec: standing(x, s),
     }
 }

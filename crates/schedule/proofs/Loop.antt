@@ -10,56 +10,90 @@ use native.Mathlib.Numerals.{add-one}
 use lib.Dec.{eqb}
 use lib.ListN.{length, getD, drop, drop-of-length-le}
 use lib.Seq.{drop-cons}
-use borrow.Author.Tests.{eqb-false}
+use borrow.Author.Tests.{eqb-true, eqb-false}
 use Rattle.base.specs.Choice.{pick}
 use Rattle.base.proofs.Tests.{split}
 use Rattle.rules.specs.Table.{State, Outcome, state, outcome}
 use Rattle.rules.specs.Check.{check}
 use Rattle.rules.specs.Steps.{step, codeOf}
 use Rattle.rules.specs.Schedules.{Followed, followed, follow, schedule}
+use Rattle.rules.specs.Changes.{changes, changesAll}
 use Rattle.rules.specs.declared.Record.{Record}
 use Rattle.rules.specs.declared.Made.{Made}
 use Rattle.rules.specs.declared.Step.{Step}
 use Rattle.schedule.specs.declared.Going.{Going}
 use Rattle.schedule.specs.Stands.{going, ended, begun, after}
 use Rattle.rules.proofs.Refused.{refused-stays}
+use Rattle.rules.proofs.Sums.{sum-done, sum-refused, sum-none, most-two}
 
 -- what a test picks, once it is known
 picked : {A : Type 0} (z x y : A) (b c : Bool) → z ≡ pick b x y → b ≡ c → z ≡ pick c x y
 picked z x y b c e h = e ∙ ap (λ (t : Bool). pick t x y) h
 
-module _ (xs : List Step) (last : Followed) where
-  -- the whole run is what is left of it; or it ended here, with a code
+-- a step changes at most two colours
+pub at-most-two : (n : ℕ) (a : Step) (s : State) → n ≡ changes a s → n ≤ 2
+at-most-two n a s e = rw e (most-two a s)
+
+-- a step that is done, and the colours that are changed after it
+sum-step : (a : Step) (rest : List Step) (s : State) (d : Made) (l r c : List ℕ)
+    → outcome d l r c ≡ step a s → d .changed ≡ changes a s → codeOf (d .answer) ≡ 0
+    → changesAll (a ∷ rest) s ≡ d .changed + changesAll rest (state l r c (d .rec))
+sum-step a rest s d l r c e k z =
+    sum-done a rest s (ap (λ (o : Outcome). codeOf (o .answer)) (sym e) ∙ z)
+    ∙ ap (λ (o : Outcome). changes a s + changesAll rest (o .state)) (sym e)
+    ∙ ap (λ (n : ℕ). n + changesAll rest (state l r c (d .rec))) (sym k)
+
+-- and one that is refused
+sum-stop : (a : Step) (rest : List Step) (s : State) (d : Made) (l r c : List ℕ)
+    → outcome d l r c ≡ step a s → (codeOf (d .answer) ≡ 0 → ⊥) → changesAll (a ∷ rest) s ≡ 0
+sum-stop a rest s d l r c e f =
+    sum-refused a rest s (λ q. f (ap (λ (o : Outcome). codeOf (o .answer)) e ∙ q))
+
+module _ (xs : List Step) (last : Followed) (sum : ℕ) where
+  -- the whole run is what is left of it, and so are the colours changed; or it ended here, with a
+  -- code
   abbrev pub Inv : Going → State → Type 0
   Inv g s =
-      ((g .code ≡ 0) × (g .end ≡ length xs) × (last ≡ follow (drop (g .at) xs) (g .at) s)) ⊎
-      ((g .end ≡ g .at) × (last ≡ followed (g .at) (g .code) s))
+      ((g .code ≡ 0) × (g .end ≡ length xs) × (last ≡ follow (drop (g .at) xs) (g .at) s) ×
+      (sum ≡ g .changed + changesAll (drop (g .at) xs) s)) ⊎
+      ((g .end ≡ g .at) × (last ≡ followed (g .at) (g .code) s) × (sum ≡ g .changed))
+
+  pub counted : (g : Going) (s : State) → Inv g s → g .changed ≤ sum
+  counted g s (inl p) = omega (arith, p .3)
+  counted g s (inr p) = omega (arith, p .2)
 
   pub inside : (g : Going) (s : State) → Inv g s → g .at < g .end → g .at < length xs
   inside g s (inl p) lt = omega (arith, p .1, lt)
   inside g s (inr p) lt = absurd (omega (arith, p .0, lt))
 
-  pub leaves : (g : Going) (s : State) → Inv g s → g .end ≤ g .at → last
-      ≡ followed (g .at) (g .code) s
-  unfolding follow
+  pub leaves : (g : Going) (s : State) → Inv g s → g .end ≤ g .at
+      → (last ≡ followed (g .at) (g .code) s) × (sum ≡ g .changed)
+  unfolding follow changesAll
   leaves g s (inl p) le =
-      p .2 ∙ ap (λ (ys : List Step). follow ys (g .at) s)
-      (drop-of-length-le xs {i = g .at} (omega (arith, p .1, le)))
-      ∙ ap (λ (n : ℕ). followed (g .at) n s) (sym (p .0))
-  leaves g s (inr p) le = p .1
+      let none = drop-of-length-le xs {i = g .at} (omega (arith, p .1, le)) in
+      let left = ap (λ (ys : List Step). changesAll ys s) none in (
+        p .2 ∙ ap (λ (ys : List Step). follow ys (g .at) s) none
+            ∙ ap (λ (n : ℕ). followed (g .at) n s) (sym (p .0)),
+        omega (arith, p .3, left),
+      )
+  leaves g s (inr p) le = (p .1, p .2)
 
   -- at what `advance` ensures
   pub turns : (g : Going) (s : State) (b : Step) (d : Made) (l r c : List ℕ) (g′ : Going) → Inv g s
       → g .at < g .end
-      → outcome d l r c ≡ step (getD xs (g .at) b) s → g′ ≡ after g (d .answer) (d .rec)
+      → outcome d l r c ≡ step (getD xs (g .at) b) s
+      → d .changed ≡ changes (getD xs (g .at) b) s → g′ ≡ after g d
       → Inv g′ (state l r c (g′ .rec)) × (g′ .end - g′ .at < g .end - g .at)
   unfolding after pick follow
-  turns g s b d l r c g′ (inl p) lt e h =
+  turns g s b d l r c g′ (inl p) lt e k h =
       let a = getD xs (g .at) b in
+      let rest = drop (g .at + 1) xs in
+      let cons =
+      drop-cons xs (g .at) b (inside g s (inl p) lt)
+      ∙ ap (λ (n : ℕ). a ∷ drop n xs) (sym (add-one (g .at))) in
+      let summed = p .3 ∙ ap (λ (ys : List Step). g .changed + changesAll ys s) cons in
       let first =
-      p .2 ∙ ap (λ (ys : List Step). follow ys (g .at) s)
-      (drop-cons xs (g .at) b (inside g s (inl p) lt)
-      ∙ ap (λ (n : ℕ). a ∷ drop n xs) (sym (add-one (g .at))))
+      p .2 ∙ ap (λ (ys : List Step). follow ys (g .at) s) cons
       ∙ ap (λ (o : Outcome). pick (eqb (codeOf (o .answer)) 0)
       (follow (drop (g .at + 1) xs) (g .at + 1) (o .state))
       (followed (g .at) (codeOf (o .answer)) s)) (sym e) in
@@ -69,30 +103,42 @@ module _ (xs : List Step) (last : Followed) where
       let Kept : Going → Type 0 = λ z. Inv z (state l r c (z .rec)) ×
       (z .end - z .at < g .end - g .at) in
       subst Kept (sym h)
-      (split Kept (eqb (codeOf (d .answer)) 0) (going (g .at + 1) (g .end) (d .rec))
-      (ended (g .at) (codeOf (d .answer)) (d .rec))
-      (λ t. (inl (refl, p .1, picked _ _ _ _ _ first t), omega (arith, lt)))
+      (split Kept (eqb (codeOf (d .answer)) 0)
+      (going (g .at + 1) (g .end) (g .changed + d .changed) (d .rec))
+      (ended (g .at) (codeOf (d .answer)) (g .changed) (d .rec))
+      (λ t. (
+        inl (
+          refl,
+          p .1,
+          picked _ _ _ _ _ first t,
+          omega (arith, summed, sum-step a rest s d l r c e k (eqb-true _ _ t)),
+        ),
+        omega (arith, lt),
+      ))
       (λ t. (
         inr (
           refl,
           picked _ _ _ _ _ first t
               ∙ ap (followed (g .at) (codeOf (d .answer))) (sym (stays (eqb-false _ _ t))),
+          omega (arith, summed, sum-stop a rest s d l r c e (eqb-false _ _ t)),
         ),
         omega
             (arith, lt),
       )))
-  turns g s b d l r c g′ (inr p) lt e h = absurd (omega (arith, p .0, lt))
+  turns g s b d l r c g′ (inr p) lt e k h = absurd (omega (arith, p .0, lt))
 
 -- at what `begin` ensures
 pub begins : (xs : List Step) (l r c : List ℕ) (x : Record) (g : Going) → g
     ≡ begun (check (state l r c x)) (length xs) x
-    → Inv xs (schedule xs (state l r c x)) g (state l r c (g .rec))
+    → Inv xs (schedule xs (state l r c x)) (changesAll xs (state l r c x)) g (state l r c (g .rec))
 unfolding schedule begun pick
 begins xs l r c x g h =
     let s = state l r c x in
     let e : schedule xs s ≡ pick (eqb (check s) 0) (follow xs 0 s) (followed 0 (check s) s) = refl
     in
-    subst (λ (z : Going). Inv xs (schedule xs s) z (state l r c (z .rec))) (sym h)
-    (split (λ (z : Going). Inv xs (schedule xs s) z (state l r c (z .rec))) (eqb (check s) 0)
-    (going 0 (length xs) x) (ended 0 (check s) x)
-    (λ h. inl (refl, refl, picked _ _ _ _ _ e h)) (λ h. inr (refl, picked _ _ _ _ _ e h)))
+    let Begun : Going → Type 0 = λ z. Inv xs (schedule xs s) (changesAll xs s) z
+    (state l r c (z .rec)) in
+    subst Begun (sym h)
+    (split Begun (eqb (check s) 0) (going 0 (length xs) 0 x) (ended 0 (check s) 0 x)
+    (λ t. inl (refl, refl, picked _ _ _ _ _ e t, omega arith))
+    (λ t. inr (refl, picked _ _ _ _ _ e t, sum-none xs s (eqb-false _ _ t))))

@@ -5,20 +5,23 @@ use rules::Record;
 use rules::Step;
 ghost use mathlib.Core.Path.{_≡_};
 ghost use mathlib.Core.List.{[], _∷_};
-ghost use Prim.Native.Nat.{_<_};
+ghost use Prim.Native.Nat.{_+_, _<_};
 ghost use Rattle.rules.specs.declared.Made.{Made};
 ghost use Rattle.rules.specs.Check.{checkOf};
 ghost use Rattle.rules.specs.Steps.{step};
 ghost use Rattle.rules.specs.Schedules.{ran, schedule};
-ghost use Rattle.schedule.specs.Stands.{begun, after};
+ghost use Rattle.rules.specs.Changes.{changes, changesAll};
+ghost use Rattle.schedule.specs.Stands.{begun, after, Goes};
 ghost use Rattle.base.specs.Lent.{was, is};
 ghost use Rattle.rules.specs.Lent.{given, leaves};
 
-// Where a run stands: the next step, the step before which it ends, the code, and the record.
+// Where a run stands: the next step, the step before which it ends, the code, how many colours were
+// changed, and the record.
 pub struct Going {
     pub at: usize,
     pub end: usize,
     pub code: u8,
+    pub changed: usize,
     pub rec: Record,
 }
 
@@ -32,6 +35,7 @@ pub fn begin(lefts: usize, rights: usize, colours: usize, x: Record, n: usize) -
             at: 0,
             end: 0,
             code: judged,
+            changed: 0,
             rec: x,
         };
     }
@@ -39,6 +43,7 @@ pub fn begin(lefts: usize, rights: usize, colours: usize, x: Record, n: usize) -
         at: 0,
         end: n,
         code: 0,
+        changed: 0,
         rec: x,
     }
 }
@@ -46,9 +51,12 @@ pub fn begin(lefts: usize, rights: usize, colours: usize, x: Record, n: usize) -
 // After a step: one more is done, or the run ends here with its code.
 fn after(g: Going, made: Made) -> Going
     requires { ⌜ g .at < g .end ⌝ }
-    ensures { λ r. ⌜ r ≡ after g (made .answer) (made .rec) ⌝ }
+    requires { ⌜ g .changed + made .changed < 18446744073709551616 ⌝ }
+    ensures { λ r. ⌜ r ≡ after g made ⌝ }
 {
     let next = g.at + 1;
+    let more = made.changed;
+    let changed = g.changed + more as usize;
     let answer = made.answer;
     let code = answer.code();
     let rec = made.rec;
@@ -57,6 +65,7 @@ fn after(g: Going, made: Made) -> Going
             at: g.at,
             end: g.at,
             code,
+            changed: g.changed,
             rec,
         };
     }
@@ -64,22 +73,25 @@ fn after(g: Going, made: Made) -> Going
         at: next,
         end: g.end,
         code: 0,
+        changed,
         rec,
     }
 }
 
 // One step.
 pub fn advance(left: &mut [u16], right: &mut [u16], colour: &mut [u8], g: Going, a: Step) -> Going
-    requires { ⌜ g .at < g .end ⌝ }
+    requires { ⌜ Goes g ⌝ }
     ensures { λ r. ⌜
         ((d : Made) × ((leaves d left right colour
-        ≡ step a (given left right colour (g .rec))) × (r ≡ after g (d .answer) (d .rec)))) ⌝ }
+        ≡ step a (given left right colour (g .rec))) × ((d .changed
+        ≡ changes a (given left right colour (g .rec))) × (r ≡ after g d)))) ⌝ }
 {
     let x = g.rec;
     after(g, calls::step(left, right, colour, x, a))
 }
 
-// The steps in order until one is refused: how many were done, and the code.
+// The steps in order until one is refused: how many were done, the code, and how many colours they
+// changed in all.
 pub fn schedule(
     steps: &[Step],
     left: &mut [u16],
@@ -87,8 +99,9 @@ pub fn schedule(
     colour: &mut [u8],
     rec: Record,
 ) -> Ran
-    ensures { λ r. ⌜ ran r (is left) (is right) (is colour)
-        ≡ schedule (was steps) (given left right colour rec) ⌝ }
+    ensures { λ r. ⌜ (ran r (is left) (is right) (is colour)
+        ≡ schedule (was steps) (given left right colour rec)) × (r .changed
+        ≡ changesAll (was steps) (given left right colour rec)) ⌝ }
 {
     let mut g = begin(left.len(), right.len(), colour.len(), rec, steps.len());
     while g.at < g.end {
@@ -97,6 +110,7 @@ pub fn schedule(
     Ran {
         done: g.at,
         code: g.code,
+        changed: g.changed,
         rec: g.rec,
     }
 }

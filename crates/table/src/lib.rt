@@ -4,6 +4,7 @@ ghost use Prim.Native.Nat.{ℕ, _<_};
 ghost use mathlib.Core.List.{List, [], _∷_};
 ghost use lib.ListN.{length};
 ghost use Rattle.rules.specs.Table.{state, edgeOf, withEdge, badEdge, shadeIn};
+ghost use Rattle.rules.specs.Changes.{differing};
 ghost use Rattle.rules.specs.declared.Record.{Record};
 ghost use Rattle.base.specs.Lent.{was, is};
 
@@ -47,13 +48,16 @@ pub fn set_edge(left: &mut [u16], right: &mut [u16], side: u32, n: u16, t: u16)
     right[at] = t;
 }
 
-// [Table 11] Makes a white node gray.
-pub fn shade_node(colour: &mut [u8], n: u16)
+// [Table 11] Makes a white node gray: 1 where it was white, else 0.
+pub fn shade_node(colour: &mut [u8], n: u16) -> u8
     requires { ⌜ n < length (now colour) ⌝ }
-    ensures { λ _. ⌜ is colour ≡ shadeIn (was colour) n ⌝ }
+    ensures { λ changed. ⌜ is colour ≡ shadeIn (was colour) n ⌝ }
+    ensures { λ changed. ⌜ changed ≡ differing (was colour) (is colour) ⌝ }
 {
     let at = n as usize;
     if colour[at] == 0 {
         colour[at] = 1;
+        return 1;
     }
+    0
 }

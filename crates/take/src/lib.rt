@@ -8,9 +8,10 @@ ghost use mathlib.Core.Path.{_≡_};
 ghost use mathlib.Core.List.{[], _∷_};
 ghost use Prim.Native.Nat.{_+_, _<_, _≤_};
 ghost use lib.ListN.{length};
-ghost use Rattle.rules.specs.Table.{mostSlots, state, edgeOf};
+ghost use Rattle.rules.specs.Table.{mostSlots, state, edgeOf, shadeIn};
 ghost use Rattle.rules.specs.Editor.{depart, badFree, relink, takeNext, takeFirst};
 ghost use Rattle.rules.specs.Steps.{step, taking};
+ghost use Rattle.rules.specs.Changes.{differing, changes};
 ghost use Rattle.rules.specs.Facts.{Checked};
 ghost use Rattle.rules.specs.declared.Record.{Record};
 ghost use Rattle.base.specs.Lent.{was, is};
@@ -30,8 +31,17 @@ fn bad_free(m: u16, r: u16, e: u16) -> bool
     e <= r + 1
 }
 
-// The edge points to f, FREE's left edge to g, f's left edge to NIL; f is shaded.
-fn relink(left: &mut [u16], right: &mut [u16], colour: &mut [u8], n: u16, side: u32, f: u16, g: u16)
+// The edge points to f, FREE's left edge to g, f's left edge to NIL; f is shaded, and 1 answered
+// where that changed its colour.
+fn relink(
+    left: &mut [u16],
+    right: &mut [u16],
+    colour: &mut [u8],
+    n: u16,
+    side: u32,
+    f: u16,
+    g: u16,
+) -> u8
     requires { ⌜ side < 2 ⌝ }
     requires { ⌜ 1 < length (now left) ⌝ }
     requires { ⌜ 1 < length (now right) ⌝ }
@@ -40,13 +50,15 @@ fn relink(left: &mut [u16], right: &mut [u16], colour: &mut [u8], n: u16, side: 
     requires { ⌜ f < length (now left) ⌝ }
     requires { ⌜ f < length (now right) ⌝ }
     requires { ⌜ f < length (now colour) ⌝ }
-    ensures { λ _. ⌜ ((x : Record) → state (is left) (is right) (is colour) x
+    ensures { λ changed. ⌜ ((x : Record) → state (is left) (is right) (is colour) x
         ≡ relink (given left right colour x) n side f g) ⌝ }
+    ensures { λ changed. ⌜ is colour ≡ shadeIn (was colour) f ⌝ }
+    ensures { λ changed. ⌜ changed ≡ differing (was colour) (is colour) ⌝ }
 {
     table::set_edge(left, right, side, n, f);
     table::set_edge(left, right, 0, 1, g);
     table::set_edge(left, right, 0, f, 0);
-    table::shade_node(colour, f);
+    table::shade_node(colour, f)
 }
 
 // Take of f, whose successor is g.
@@ -66,6 +78,7 @@ fn take_next(
     requires { ⌜ side < 2 ⌝ }
     ensures { λ r. ⌜ leaves r left right colour
         ≡ takeNext (given left right colour x) n side f g ⌝ }
+    ensures { λ r. ⌜ r .changed ≡ differing (was colour) (is colour) ⌝ }
 {
     if bad_free(x.m, x.r, g) {
         return rules::refusal(7, f, x);
@@ -75,9 +88,10 @@ fn take_next(
         return rules::refusal(7, f, x);
     }
     if g == 0 {
-        relink(left, right, colour, n, side, f, g);
+        let changed = relink(left, right, colour, n, side, f, g);
         return Made {
             answer: Answer::Taken(f),
+            changed,
             rec: x.with_last(1),
         };
     }
@@ -85,10 +99,12 @@ fn take_next(
     if 2 < colour[next] {
         return rules::refusal(7, g, x);
     }
-    relink(left, right, colour, n, side, f, g);
-    table::shade_node(colour, g);
+    let taken = relink(left, right, colour, n, side, f, g);
+    let after = table::shade_node(colour, g);
+    let changed = taken + after;
     Made {
         answer: Answer::Taken(f),
+        changed,
         rec: x,
     }
 }
@@ -107,6 +123,7 @@ fn take_first(
     requires { ⌜ n < x .m ⌝ }
     requires { ⌜ side < 2 ⌝ }
     ensures { λ r. ⌜ leaves r left right colour ≡ takeFirst (given left right colour x) side f n ⌝ }
+    ensures { λ r. ⌜ r .changed ≡ differing (was colour) (is colour) ⌝ }
 {
     if bad_free(x.m, x.r, f) {
         return rules::refusal(7, 1, x);
@@ -133,6 +150,7 @@ fn take_from(
     ensures { λ r. ⌜ leaves r left right colour
         ≡ depart (given left right colour x) p
         (takeFirst (given left right colour x) side (edgeOf (was left ∷ was right ∷ []) 0 1)) ⌝ }
+    ensures { λ r. ⌜ r .changed ≡ differing (was colour) (is colour) ⌝ }
 {
     let from = places::depart(left, right, x.m, p);
     match from {
@@ -155,6 +173,7 @@ pub fn take(
 ) -> Made
     ensures { λ r. ⌜ leaves r left right colour
         ≡ step (taking p side) (given left right colour x) ⌝ }
+    ensures { λ r. ⌜ r .changed ≡ changes (taking p side) (given left right colour x) ⌝ }
 {
     let code = places::edit_code(left.len(), right.len(), colour.len(), x, p, side, 0);
     if code != 0 {

@@ -184,11 +184,26 @@ def order(rng, sim):
     return step
 
 
+def colouring(rng, sim):
+    """Take, Shade and Append over every colour; of Take g is another node, none, or f."""
+    m, left, v, way = sim.m, sim.e[0], vars(sim), rng.randrange(4)
+    f, g = rng.sample(range(sim.r + 2, m), 2)
+    sim.col[:] = rng.choices(range(3), k=m)
+    if way == 0:
+        sim.owed = rng.choice((0, *range(2, m)))
+        return plain(rng, sim, SHADE)
+    if way == 1:
+        make([(v, "tag", APPEND), (v, "i", f), (v, "last", g), (sim.col, f, rng.choice((0, 2)))])
+        return plain(rng, sim, COLLECT)
+    make([(v, "owed", None), (left, 1, f), (left, f, rng.choice((g, g, 0, f))), (v, "last", g)])
+    return [TAKE, rng.randrange(sim.r), 0, 0, rng.randrange(2), 0, 0, 0]
+
+
 # The family, its lines for a seed, and the least and largest M.
 STATES = ((plain, 50, 3, 24), (collecting, 80, 3, 24), (collecting_bad, 60, 3, 16),
           (damaged, 120, 4, 16), (taking, 70, 7, 14), (sizes, 30, 3, 24), (records, 60, 3, 24),
-          (limits, 70, 3, 12), (order, 80, 10, 14), (sizes, 1, 4096, 4096),
-          (records, 1, 4096, 4096))
+          (limits, 70, 3, 12), (order, 80, 10, 14), (colouring, 60, 7, 14),
+          (sizes, 1, 4096, 4096), (records, 1, 4096, 4096))
 
 
 def sound(rng, low, high):
@@ -230,6 +245,9 @@ def run_lines(seed):
             if kind == LINK and rng.random() < 0.9:
                 steps += [[COLLECT] * 8] * rng.randrange(3) + [[SHADE] * 8]
         yield numbers(sim) + [len(steps)] + [number for step in steps for number in step]
+    # One that changes some hundred colours.
+    sim, count = sound(rng, 200, 300), rng.randint(1000, 2000)
+    yield numbers(sim) + [count] + [COLLECT] * 8 * count
 
 
 def fresh_lines(seed):

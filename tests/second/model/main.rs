@@ -1,6 +1,7 @@
 //! A second program, written from the studio's document 01 alone, without a look
-//! at the first, and Load and nodes in use from the studio's requests for them in
-//! the same way. The comments cite the rules of docs/RULES.md that it follows.
+//! at the first, and Load, nodes in use and colours changed from the studio's
+//! requests for them in the same way. The comments cite the rules of docs/RULES.md
+//! that it follows.
 //!
 //!     rustc -O main.rs -o model
 //!
@@ -19,13 +20,14 @@
 //! other number may have 64. A line not of this form prints "bad line". The
 //! answer is one line:
 //!
-//!     code node did, then M R .. colour.. as they are afterwards
+//!     code node changed did, then M R .. colour.. as they are afterwards
 //!
-//! did: 0 an editor step or a refusal, 1 shaded, 2 looked, 3 blackened,
-//! 4 whitened, 5 appended.
+//! changed: how many colours the step changed, 0 for a refusal. did: 0 an editor
+//! step or a refusal, 1 shaded, 2 looked, 3 blackened, 4 whitened, 5 appended.
 //!
 //! `model --run` has after the arrays the number of steps and then so many
-//! times the eight numbers of a step, and answers: done code M R .. colour..
+//! times the eight numbers of a step, and answers: done code changed M R ..
+//! colour.. with the colours changed, summed over the steps that were done.
 //!
 //! `model --fresh` reads: M R len left.. len right.. len colour.. and answers:
 //! code M R .. colour..

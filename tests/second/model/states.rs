@@ -8,7 +8,7 @@ use crate::editor::Place;
 use crate::inuse::nodes_in_use;
 use crate::load::load;
 use crate::record::{fresh, Phase, Record, LARGEST_CYCLES};
-use crate::step::{do_run, do_step, Step};
+use crate::step::{do_and_count, do_run, Step};
 use crate::table::Table;
 
 /// The decimal numbers of one line, taken one after the other.
@@ -113,12 +113,13 @@ pub fn state_line(numbers: &mut Numbers) -> Option<String> {
     let mut table = numbers.table()?;
     let step = numbers.step()?;
     numbers.end()?;
-    let (code, node, did) = match do_step(&mut table, &mut record, &step) {
+    let (reply, changed) = do_and_count(&mut table, &mut record, &step);
+    let (code, node, did) = match reply {
         Ok(answer) => (DONE, answer.node, answer.did as usize),
         Err(refusal) => (refusal.code, refusal.node, 0),
     };
     let after = show(&record, &table);
-    Some(format!("{} {} {} {}", code, node, did, after))
+    Some(format!("{} {} {} {} {}", code, node, changed, did, after))
 }
 
 pub fn run_line(numbers: &mut Numbers) -> Option<String> {
@@ -127,8 +128,8 @@ pub fn run_line(numbers: &mut Numbers) -> Option<String> {
     let count = numbers.take()?;
     let steps: Vec<Step> = (0..count).map(|_| numbers.step()).collect::<Option<_>>()?;
     numbers.end()?;
-    let (done, code) = do_run(&mut table, &mut record, &steps);
-    Some(format!("{} {} {}", done, code, show(&record, &table)))
+    let (done, code, changed) = do_run(&mut table, &mut record, &steps);
+    Some(format!("{} {} {} {}", done, code, changed, show(&record, &table)))
 }
 
 pub fn fresh_line(numbers: &mut Numbers) -> Option<String> {

@@ -46,16 +46,29 @@ pub fn do_step(table: &mut Table, record: &mut Record, step: &Step) -> Reply {
     }
 }
 
-/// [Schedules 1] [Schedules 2] [Schedules 3]
-pub fn do_run(table: &mut Table, record: &mut Record, steps: &[Step]) -> (usize, usize) {
+/// A step, and how many colours it changed: those that are not as they were
+/// before, whatever the step is.
+pub fn do_and_count(table: &mut Table, record: &mut Record, step: &Step) -> (Reply, usize) {
+    let before = table.colours.clone();
+    let reply = do_step(table, record, step);
+    let changed = before.iter().zip(&table.colours).filter(|(was, is)| was != is).count();
+    (reply, changed)
+}
+
+/// [Schedules 1] [Schedules 2] [Schedules 3] Answers how many were done, the code,
+/// and the colours changed, summed over the steps done.
+pub fn do_run(table: &mut Table, record: &mut Record, steps: &[Step]) -> (usize, usize, usize) {
     // [Schedules 4]
     if let Err(refusal) = record.judge(table) {
-        return (0, refusal.code);
+        return (0, refusal.code, 0);
     }
+    let mut sum = 0;
     for (done, step) in steps.iter().enumerate() {
-        if let Err(refusal) = do_step(table, record, step) {
-            return (done, refusal.code);
+        let (reply, changed) = do_and_count(table, record, step);
+        if let Err(refusal) = reply {
+            return (done, refusal.code, sum);
         }
+        sum += changed;
     }
-    (steps.len(), DONE)
+    (steps.len(), DONE, sum)
 }

@@ -5,6 +5,7 @@ use native.Mathlib.Omega.{arith}
 use borrow.Author.Needs.{needs}
 use Rattle.rules.specs.Check.{bound}
 use Rattle.rules.proofs.Checked.{good}
+use Rattle.rules.proofs.Sums.{sum-none}
 use Rattle.batch.proofs.Last.{scheduled, unscheduled}
 use Rattle.batch.proofs.collect_many.Statement.{statement}
 use Rattle.batch.proofs.collect_many.Tie as tie
@@ -17,8 +18,10 @@ refused-requires c κs = search needs
 
 returns : tie.Need-returns
 returns c =
-    rw (c .refused .ensures)
-    (unscheduled _ _ _ (c .before .before .check .ensures) (c .before .if1 .taken))
+    let code = c .before .before .check .ensures in (
+      rw (c .refused .ensures) (unscheduled _ _ _ code (c .before .if1 .taken)),
+      sym (sum-none _ _ (λ z. c .before .if1 .taken (code ∙ z))),
+    )
 
 bound-requires : tie.Need-bound-requires
 bound-requires c κs = let g =
@@ -47,9 +50,11 @@ returns-2 : tie.Need-returns-2
 returns-2 c =
     let at-all-steps = c .before .before .before .before .before .before in
     let at-if1 = at-all-steps .before .before .before .before .before in
-    let at-check = at-if1 .before in
-    scheduled _ _ _ _ _ (record { code = sym (at-if1 .if1 .left) ∙ at-check .check .ensures })
-    (at-all-steps .all-steps .ensures)
+    let at-check = at-if1 .before in (
+      scheduled _ _ _ _ _ (record { code = sym (at-if1 .if1 .left) ∙ at-check .check .ensures })
+          (at-all-steps .all-steps .ensures .0),
+      at-all-steps .all-steps .ensures .1,
+    )
 
 pub collect-many-spec : {M : Type 1} → statement M
 collect-many-spec =

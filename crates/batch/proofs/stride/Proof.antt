@@ -8,7 +8,7 @@ use Rattle.batch.proofs.stride.Statement.{statement}
 use Rattle.batch.proofs.stride.Tie as tie
 
 returns : tie.Need-returns
-returns c = (omega arith, stay _ 0 refl (c .before .before .before .before .pre .0))
+returns c = (omega arith, stay _ 0 0 refl refl (c .before .before .before .before .pre .0))
 
 enum-known-phase : tie.Need-enum-known-phase
 enum-known-phase c = search needs
@@ -76,17 +76,17 @@ returns-4 c = search needs
 returns-5 : tie.Need-returns-5
 returns-5 c =
     let at-entry = c .before .before .before .before .before .before in
-    (omega arith, stay _ 0 refl (at-entry .pre .0))
+    (omega arith, stay _ 0 0 refl refl (at-entry .pre .0))
 
 returns-6 : tie.Need-returns-6
 returns-6 c =
     let at-entry = c .before .before .before .before .before .before in
-    (omega arith, stay _ 0 refl (at-entry .pre .0))
+    (omega arith, stay _ 0 0 refl refl (at-entry .pre .0))
 
 returns-7 : tie.Need-returns-7
 returns-7 c =
     let at-entry = c .before .before .before .before .before .before in
-    (omega arith, stay _ 0 refl (at-entry .pre .0))
+    (omega arith, stay _ 0 0 refl refl (at-entry .pre .0))
 
 pub stride-spec : {M : Type 1} → statement M
 stride-spec =

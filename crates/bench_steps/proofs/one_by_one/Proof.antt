@@ -44,7 +44,7 @@ returns : tie.Need-returns Inv-loop μ-loop
 returns c =
     let at-call = c .before .before .before .before .before .before .before .before .before in
     let at-test = at-call .before .before .before .before in
-    refused _ _ _ _ _ (at-call .collect .ensures) (at-test .loop-test .taken)
+    refused _ _ _ _ _ (at-call .collect .ensures .0) (at-test .loop-test .taken)
     (c .before .code .ensures) (c .if1 .taken)
     ∙ sym (at-test .before .loop .inv .4)
 
@@ -61,7 +61,7 @@ loop-again : tie.Need-loop-again Inv-loop μ-loop
 loop-again c =
     let at-call = c .before .before .before .before .before .before .before .before .before in
     let at-test = at-call .before .before .before .before in
-    let goes-on = done _ _ _ _ _ (at-call .collect .ensures) (at-test .loop-test .taken)
+    let goes-on = done _ _ _ _ _ (at-call .collect .ensures .0) (at-test .loop-test .taken)
     (c .before .code .ensures) (c .if1 .left) in
     (omega arith, omega arith, omega arith, omega arith, at-test .before .loop .inv .4 ∙ goes-on)
 

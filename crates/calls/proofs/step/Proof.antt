@@ -1,10 +1,10 @@
 -- For each kind, the call that is made has the definition's step of that kind by its own
 -- contract; a kind above 4 is refused as the definition says.
-use mathlib.Core.Path.{_∙_}
 use lib.ListN.{take}
 use borrow.Author.Needs.{needs}
 use Rattle.calls.proofs.Named.{kind-take, kind-link, kind-shade, kind-collect, kind-look}
-use Rattle.calls.proofs.Named.{kind-none}
+use Rattle.rules.proofs.Changes.{told-none}
+use Rattle.calls.proofs.Named.{kind-none, named}
 use Rattle.calls.specs.Unreadable.{unreadable}
 use Rattle.calls.proofs.step.Statement.{statement}
 use Rattle.calls.proofs.step.Tie as tie
@@ -29,7 +29,8 @@ returns c =
     let at-take = c .before .before .before .before .before .before in
     let at-source = at-take .before in
     let at-if1 = at-source .before .before .before .before in
-    at-take .take .ensures ∙ kind-take _ _ _ (at-source .source .ensures) (at-if1 .if1 .taken)
+    named _ _ _ _ _ (at-take .take .ensures)
+    (kind-take _ _ _ (at-source .source .ensures) (at-if1 .if1 .taken))
 
 source-requires-2 : tie.Need-source-requires-2
 source-requires-2 c κs = search needs
@@ -53,9 +54,9 @@ returns-2 : tie.Need-returns-2
 returns-2 c =
     let at-source2 = c .before .before .before .before .before .before in
     let at-if2 = at-source2 .before .before .before .before in
-    c .before .before .before .before .link .ensures
-    ∙ kind-link _ _ _ _ (at-source2 .source2 .ensures)
-    (c .before .before .before .before .before .target .ensures) (at-if2 .if2 .taken)
+    named _ _ _ _ _ (c .before .before .before .before .link .ensures)
+    (kind-link _ _ _ _ (at-source2 .source2 .ensures)
+    (c .before .before .before .before .before .target .ensures) (at-if2 .if2 .taken))
 
 shade-requires : tie.Need-shade-requires
 shade-requires c κs = search needs
@@ -72,7 +73,7 @@ same-length-9 c = search needs
 returns-3 : tie.Need-returns-3
 returns-3 c =
     let at-if3 = c .before .before .before .before .before .before in
-    c .before .before .shade .ensures ∙ kind-shade _ _ (at-if3 .if3 .taken)
+    named _ _ _ _ _ (c .before .before .shade .ensures) (kind-shade _ _ (at-if3 .if3 .taken))
 
 collect-requires : tie.Need-collect-requires
 collect-requires c κs = search needs
@@ -90,7 +91,7 @@ returns-4 : tie.Need-returns-4
 returns-4 c =
     let at-collect = c .before .before .before .before .before .before in
     let at-if4 = at-collect .before .before .before .before in
-    at-collect .collect .ensures ∙ kind-collect _ _ (at-if4 .if4 .taken)
+    named _ _ _ _ _ (at-collect .collect .ensures) (kind-collect _ _ (at-if4 .if4 .taken))
 
 source-requires-3 : tie.Need-source-requires-3
 source-requires-3 c κs = search needs
@@ -109,8 +110,8 @@ same-length-15 c = search needs
 
 returns-5 : tie.Need-returns-5
 returns-5 c =
-    c .look .ensures ∙ kind-look _ _ _ (c .before .source3 .ensures)
-    (c .before .before .before .before .before .if5 .taken)
+    named _ _ _ _ _ (c .look .ensures) (kind-look _ _ _ (c .before .source3 .ensures)
+    (c .before .before .before .before .before .if5 .taken))
 
 unreadable-requires : tie.Need-unreadable-requires
 unreadable-requires c κs = search needs
@@ -123,10 +124,10 @@ unfolding unreadable
 returns-6 c =
     let at-if5 = c .before .before in
     let at-if3 = at-if5 .before .before in
-    rw (c .refusal .ensures)
+    told-none _ _ _ _ _ (rw (c .refusal .ensures)
     (kind-none _ _ _ (c .before .unreadable .ensures) (at-if3 .before .before .if1 .left)
     (at-if3 .before .if2 .left) (at-if3 .if3 .left) (at-if5 .before .if4 .left)
-    (at-if5 .if5 .left))
+    (at-if5 .if5 .left))) (rw (c .refusal .ensures))
 
 pub step-spec : {M : Type 1} → statement M
 step-spec =

@@ -1,7 +1,9 @@
 -- The colour decides, as in the definition; a white node is `append_white`'s.
+use mathlib.Core.Path.{_∙_}
 use borrow.Author.Needs.{needs}
 use Rattle.base.proofs.Tests.{tests}
 use Rattle.rules.specs.Collector.{appendStep}
+use Rattle.rules.proofs.Changes.{unchanged, one-whitened}
 use Rattle.rules.proofs.Laws.{same}
 use Rattle.collector.proofs.append_step.Statement.{statement}
 use Rattle.collector.proofs.append_step.Tie as tie
@@ -20,7 +22,7 @@ same-length c = search needs
 
 returns : tie.Need-returns
 unfolding appendStep
-returns c = search (same, tests, needs) depth 12
+returns c = (search (same, tests, needs) depth 12, search (one-whitened, needs))
 
 slice-read-if2 : tie.Need-slice-read-if2
 slice-read-if2 c = search needs
@@ -37,14 +39,18 @@ same-length-3 c = search needs
 returns-2 : tie.Need-returns-2
 unfolding appendStep
 returns-2 c =
-    search (c .before .before .before .before .append-white .ensures, tests, needs) depth 12
+    let appended = c .before .before .before .before .append-white .ensures in
+    (search (appended .0, tests, needs) depth 12, appended .1 ∙ unchanged _)
 
 refusal-requires : tie.Need-refusal-requires
 refusal-requires c κs = search needs
 
 returns-3 : tie.Need-returns-3
 unfolding appendStep
-returns-3 c = rw (c .refusal .ensures) (search (tests, needs) depth 12)
+returns-3 c = (
+  rw (c .refusal .ensures) (search (tests, needs) depth 12),
+  rw (c .refusal .ensures) (unchanged _),
+)
 
 pub append-step-spec : {M : Type 1} → statement M
 append-step-spec =

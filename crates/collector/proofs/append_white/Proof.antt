@@ -1,6 +1,7 @@
 -- Past the two refusals the three writes are those of the definition, in its order: node i and
 -- last lie in the table.
 use Prim.Native.Nat.{_<_}
+use mathlib.Core.Path.{refl}
 use lib.ListN.{length}
 use denote.Ref.{now}
 use native.Mathlib.Omega.{arith}
@@ -23,14 +24,16 @@ refusal-requires c κs = search needs
 
 returns : tie.Need-returns
 unfolding appendWhite
-returns c = λ l. rw (c .refusal .ensures) (search (tests, needs) depth 12)
+returns c =
+    (λ l. rw (c .refusal .ensures) (search (tests, needs) depth 12), rw (c .refusal .ensures))
 
 refusal-requires-2 : tie.Need-refusal-requires-2
 refusal-requires-2 c κs = search needs
 
 returns-2 : tie.Need-returns-2
 unfolding appendWhite
-returns-2 c = λ l. rw (c .refusal2 .ensures) (search (tests, needs) depth 12)
+returns-2 c =
+    (λ l. rw (c .refusal2 .ensures) (search (tests, needs) depth 12), rw (c .refusal2 .ensures))
 
 mul-left : tie.Need-mul-left
 mul-left c = search needs
@@ -70,7 +73,8 @@ same-length-2 c = search needs
 
 returns-3 : tie.Need-returns-3
 unfolding appendWhite append withEdge cleared
-returns-3 c = λ k. rw (← c .before .with-last .ensures) (search (same, tests, needs) depth 12)
+returns-3 c =
+    (λ k. rw (← c .before .with-last .ensures) (search (same, tests, needs) depth 12), refl)
 
 pub append-white-spec : {M : Type 1} → statement M
 append-white-spec =

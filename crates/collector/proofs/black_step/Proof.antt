@@ -7,8 +7,8 @@ use Rattle.rules.proofs.Laws.{same}
 use Rattle.collector.proofs.black_step.Statement.{statement}
 use Rattle.collector.proofs.black_step.Tie as tie
 
-slice-write-colour : tie.Need-slice-write-colour
-slice-write-colour c = search needs
+blacken-requires : tie.Need-blacken-requires
+blacken-requires c κs = search needs
 
 rescan-requires : tie.Need-rescan-requires
 rescan-requires c κs = search needs
@@ -18,7 +18,7 @@ same-length c = search needs
 
 returns : tie.Need-returns
 unfolding blackStep
-returns c = λ es. search (same, tests, needs) depth 12
+returns c = (λ es. search (same, tests, needs) depth 12, search needs)
 
 pub black-step-spec : {M : Type 1} → statement M
-black-step-spec = tie.close (tie.spec slice-write-colour rescan-requires same-length returns)
+black-step-spec = tie.close (tie.spec blacken-requires rescan-requires same-length returns)

@@ -3,6 +3,7 @@
 use mathlib.Core.Path.{sym, _∙_}
 use borrow.Author.Needs.{needs}
 use Rattle.rules.specs.Collector.{collect}
+use Rattle.rules.proofs.Changes.{told, told-none}
 use Rattle.rules.proofs.Checked.{good, inside}
 use Rattle.rules.proofs.Laws.{unless-done, unless-refused, step-collecting}
 use Rattle.collector.proofs.collect.Statement.{statement}
@@ -17,8 +18,9 @@ refusal-requires c κs = search needs
 returns : tie.Need-returns
 unfolding collect
 returns c =
-    rw (step-collecting, c .refusal .ensures)
-    (unless-refused _ _ _ _ (c .before .before .check .ensures) (c .before .if1 .taken))
+    told-none _ _ _ _ _ (rw (step-collecting, c .refusal .ensures)
+    (unless-refused _ _ _ _ (c .before .before .check .ensures) (c .before .if1 .taken)))
+    (rw (c .refusal .ensures))
 
 phase-step-requires : tie.Need-phase-step-requires
 phase-step-requires c κs = (
@@ -44,8 +46,9 @@ returns-2 c =
     let at-phase-step = c .before .before .before .before .before .before in
     let at-if1 = at-phase-step .before .before .before .before in
     let at-check = at-if1 .before in
-    rw step-collecting (unless-done _ _ _ _ _ (at-check .check .ensures) (at-if1 .if1 .left)
-    (at-phase-step .phase-step .ensures))
+    told _ _ _ _ _ _ (rw step-collecting (unless-done _ _ _ _ _ (at-check .check .ensures)
+    (at-if1 .if1 .left) (at-phase-step .phase-step .ensures .0)))
+    (at-phase-step .phase-step .ensures .1)
 
 pub collect-spec : {M : Type 1} → statement M
 collect-spec =

@@ -1,8 +1,10 @@
 -- In each arm the phase is known, and the definition at it is the arm's call. What the call asks
 -- follows from the record's test and the phase's position.
+use mathlib.Core.Path.{_∙_}
 use native.Mathlib.Omega.{arith}
 use borrow.Author.Needs.{needs}
 use Rattle.rules.specs.Collector.{phaseStep}
+use Rattle.rules.proofs.Changes.{unchanged}
 use Rattle.collector.proofs.phase_step.Statement.{statement}
 use Rattle.collector.proofs.phase_step.Tie as tie
 
@@ -78,15 +80,20 @@ returns : tie.Need-returns
 unfolding phaseStep
 returns c =
     let at-phase = c .before .before .before .before .before .before in
-    rw (at-phase .phase .given .1, ← c .before .before .before .after-roots .ensures)
-    (c .before .before .shade-step .ensures _)
+    let done = c .before .before .shade-step .ensures in (
+      rw (at-phase .phase .given .1, ← c .before .before .before .after-roots .ensures) (done .0 _),
+      done .1,
+    )
 
 same-length-2 : tie.Need-same-length-2
 same-length-2 c = search needs
 
 returns-2 : tie.Need-returns-2
 unfolding phaseStep
-returns-2 c = rw (c .before .before .before .phase2 .given .1) (c .scan-step .ensures _)
+returns-2 c = (
+  rw (c .before .before .before .phase2 .given .1) (c .scan-step .ensures .0 _),
+  c .scan-step .ensures .1 ∙ unchanged _,
+)
 
 same-length-3 : tie.Need-same-length-3
 same-length-3 c = search needs
@@ -101,8 +108,10 @@ returns-3 : tie.Need-returns-3
 unfolding phaseStep
 returns-3 c =
     let at-phase3 = c .before .before .before .before .before .before .before .before in
-    rw (at-phase3 .phase3 .given .1, ← c .before .before .before .edge .ensures)
-    (c .before .before .edge-step .ensures _)
+    let done = c .before .before .edge-step .ensures in (
+      rw (at-phase3 .phase3 .given .1, ← c .before .before .before .edge .ensures) (done .0 _),
+      done .1,
+    )
 
 same-length-6 : tie.Need-same-length-6
 same-length-6 c = search needs
@@ -117,8 +126,10 @@ returns-4 : tie.Need-returns-4
 unfolding phaseStep
 returns-4 c =
     let at-phase4 = c .before .before .before .before .before .before .before .before in
-    rw (at-phase4 .phase4 .given .1, ← c .before .before .before .edge2 .ensures)
-    (c .before .before .edge-step2 .ensures _)
+    let done = c .before .before .edge-step2 .ensures in (
+      rw (at-phase4 .phase4 .given .1, ← c .before .before .before .edge2 .ensures) (done .0 _),
+      done .1,
+    )
 
 same-length-9 : tie.Need-same-length-9
 same-length-9 c = search needs
@@ -126,8 +137,8 @@ same-length-9 c = search needs
 returns-5 : tie.Need-returns-5
 unfolding phaseStep
 returns-5 c =
-    rw (c .before .before .before .before .before .phase5 .given .1)
-    (c .before .before .black-step .ensures _)
+    let done = c .before .before .black-step .ensures in
+    (rw (c .before .before .before .before .before .phase5 .given .1) (done .0 _), done .1)
 
 same-length-10 : tie.Need-same-length-10
 same-length-10 c = search needs
@@ -143,7 +154,8 @@ unfolding phaseStep
 returns-6 c =
     let at-append-step = c .before .before .before .before .before .before in
     let at-phase6 = at-append-step .before .before .before .before .before in
-    rw (at-phase6 .phase6 .given .1) (at-append-step .append-step .ensures)
+    let done = at-append-step .append-step .ensures in
+    (rw (at-phase6 .phase6 .given .1) (done .0), done .1)
 
 pub phase-step-spec : {M : Type 1} → statement M
 phase-step-spec =

@@ -1,4 +1,5 @@
 -- The tests stand in the definition's order, and each return is its case.
+use mathlib.Core.Path.{refl}
 use borrow.Author.Needs.{needs}
 use Rattle.base.proofs.Tests.{tests}
 use Rattle.rules.specs.Collector.{scanStep}
@@ -11,7 +12,8 @@ shared-slice-read-if1 c = search needs
 
 returns : tie.Need-returns
 unfolding scanStep
-returns c = λ es. rw (c .refusal .ensures) (search (tests, needs) depth 12)
+returns c =
+    (λ es. rw (c .refusal .ensures) (search (tests, needs) depth 12), rw (c .refusal .ensures))
 
 refusal-requires : tie.Need-refusal-requires
 refusal-requires c κs = search needs
@@ -24,14 +26,14 @@ moved-requires c κs = search needs
 
 returns-2 : tie.Need-returns-2
 unfolding scanStep
-returns-2 c = λ es. search (same, tests, needs) depth 12
+returns-2 c = (λ es. search (same, tests, needs) depth 12, refl)
 
 marked-requires : tie.Need-marked-requires
 marked-requires c κs = search needs
 
 returns-3 : tie.Need-returns-3
 unfolding scanStep
-returns-3 c = λ es. search (same, tests, needs) depth 12
+returns-3 c = (λ es. search (same, tests, needs) depth 12, refl)
 
 add-t17 : tie.Need-add-t17
 add-t17 c = search needs
@@ -47,7 +49,7 @@ moved-requires-2 c κs = search needs
 
 returns-4 : tie.Need-returns-4
 unfolding scanStep
-returns-4 c = λ es. search (same, tests, needs) depth 12
+returns-4 c = (λ es. search (same, tests, needs) depth 12, refl)
 
 pub scan-step-spec : {M : Type 1} → statement M
 scan-step-spec =

@@ -2,6 +2,7 @@
 use borrow.Author.Needs.{needs}
 use Rattle.base.proofs.Tests.{tests}
 use Rattle.rules.specs.Collector.{shadeStep}
+use Rattle.rules.proofs.Changes.{unchanged}
 use Rattle.rules.proofs.Laws.{same}
 use Rattle.collector.proofs.shade_step.Statement.{statement}
 use Rattle.collector.proofs.shade_step.Tie as tie
@@ -14,7 +15,10 @@ refusal-requires c κs = search needs
 
 returns : tie.Need-returns
 unfolding shadeStep
-returns c = λ es. rw (c .refusal .ensures) (search (tests, needs) depth 12)
+returns c = (
+  λ es. rw (c .refusal .ensures) (search (tests, needs) depth 12),
+  rw (c .refusal .ensures) (unchanged _),
+)
 
 shade-node-requires : tie.Need-shade-node-requires
 shade-node-requires c κs = search needs
@@ -27,7 +31,7 @@ same-length c = search needs
 
 returns-2 : tie.Need-returns-2
 unfolding shadeStep
-returns-2 c = λ es. search (same, tests, needs) depth 12
+returns-2 c = (λ es. search (same, tests, needs) depth 12, search needs)
 
 pub shade-step-spec : {M : Type 1} → statement M
 shade-step-spec =

@@ -5,6 +5,7 @@ use native.Mathlib.Omega.{arith}
 use borrow.Author.Needs.{needs}
 use Rattle.base.proofs.Tests.{zeros}
 use Rattle.rules.specs.Editor.{link}
+use Rattle.rules.proofs.Changes.{told-none}
 use Rattle.rules.proofs.Checked.{good}
 use Rattle.rules.proofs.Laws.{unless-done, unless-refused, step-linking}
 use Rattle.rules.proofs.Walks.{slot-below, side-below}
@@ -27,7 +28,8 @@ returns c =
     let at-edit-code = c .before .before in
     let target = at-edit-code .before .place-code .ensures in
     let code = rw target at (at-edit-code .edit-code .ensures) in
-    rw (step-linking, c .refusal .ensures) (unless-refused _ _ _ _ code (c .before .if1 .taken))
+    told-none _ _ _ _ _ (rw (step-linking, c .refusal .ensures)
+    (unless-refused _ _ _ _ code (c .before .if1 .taken))) (rw (c .refusal .ensures))
 
 link-from-requires : tie.Need-link-from-requires
 unfolding editCode
@@ -51,8 +53,9 @@ returns-2 c =
     let at-if1 = c .before .before .before .before .before .before .before in
     let target = at-if1 .before .before .place-code .ensures in
     let code = rw target at (at-if1 .before .edit-code .ensures) in
-    rw step-linking (unless-done _ _ _ _ _ code (at-if1 .if1 .left)
-    (c .before .before .before .before .link-from .ensures _))
+    let done = c .before .before .before .before .link-from .ensures in
+    told-none _ _ _ _ _ (rw step-linking (unless-done _ _ _ _ _ code (at-if1 .if1 .left)
+    (done .0 _))) (done .1)
 
 pub link-spec : {M : Type 1} → statement M
 link-spec =

@@ -37,9 +37,11 @@ same-length-2 c = search needs
 returns : tie.Need-returns
 returns c =
     let at-link-to = c .before .before .before .before in
-    let at-from = at-link-to .before .before .before .before in
-    λ k. departs _ _ _ _ _ _ (at-from .before .before .depart .ensures) (at-from .from .given .1)
-    (at-link-to .link-to .ensures k)
+    let at-from = at-link-to .before .before .before .before in (
+      λ k. departs _ _ _ _ _ _ (at-from .before .before .depart .ensures) (at-from .from .given .1)
+          (at-link-to .link-to .ensures .0 k),
+      at-link-to .link-to .ensures .1,
+    )
 
 same-length-3 : tie.Need-same-length-3
 same-length-3 c = search needs
@@ -50,8 +52,11 @@ same-length-4 c = search needs
 returns-2 : tie.Need-returns-2
 returns-2 c =
     let at-from = c .before .before in
-    λ k. rw (c .refusal .ensures)
-    (absent _ _ _ _ _ _ (at-from .before .before .depart .ensures) (at-from .from2 .given .1))
+    let at-depart = at-from .before .before in (
+      λ k. rw (c .refusal .ensures)
+          (absent _ _ _ _ _ _ (at-depart .depart .ensures) (at-from .from2 .given .1)),
+      rw (c .refusal .ensures),
+    )
 
 pub link-from-spec : {M : Type 1} → statement M
 link-from-spec =

@@ -1,5 +1,6 @@
 -- The walk's contract says where the target is. It lies in the table; the edge written and the
 -- record that owes are the definition's.
+use mathlib.Core.Path.{refl}
 use borrow.Author.Needs.{needs}
 use Rattle.rules.specs.Editor.{linkTo}
 use Rattle.places.proofs.Arrivals.{arrives, stops, leaves}
@@ -29,10 +30,12 @@ same-length-2 c = search needs
 
 returns : tie.Need-returns
 unfolding linkTo
-returns c =
-    λ k. rw (c .refusal .ensures)
-    (stops _ _ _ _ _ _ (c .before .before .before .before .walk .ensures)
-    (c .before .before .enum-told .given .1) (c .before .stood .ensures))
+returns c = (
+  λ k. rw (c .refusal .ensures)
+      (stops _ _ _ _ _ _ (c .before .before .before .before .walk .ensures)
+      (c .before .before .enum-told .given .1) (c .before .stood .ensures)),
+  rw (c .refusal .ensures),
+)
 
 set-edge-requires : tie.Need-set-edge-requires
 set-edge-requires c κs = search needs
@@ -51,11 +54,13 @@ unfolding linkTo
 returns-2 c =
     let at-to = c .before .before .before .before .before .before .before .before .before in
     let at-walk = at-to .before .before in
-    let at-entry = at-walk .before .before .before .before .before in
-    λ k. arrives _ _ _ _ _ _ (at-walk .walk .ensures) (at-to .to .given .1)
-    (leaves _ (at-entry .args .x) _ _ _ _ _ _
-    (c .before .before .before .before .before .set-edge .ensures k (at-entry .args .x))
-    (c .owing .ensures))
+    let at-entry = at-walk .before .before .before .before .before in (
+      λ k. arrives _ _ _ _ _ _ (at-walk .walk .ensures) (at-to .to .given .1)
+          (leaves _ (at-entry .args .x) _ _ _ _ _ _
+          (c .before .before .before .before .before .set-edge .ensures k (at-entry .args .x))
+          (c .owing .ensures)),
+      refl,
+    )
 
 pub link-to-spec : {M : Type 1} → statement M
 link-to-spec =

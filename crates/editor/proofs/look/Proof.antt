@@ -5,6 +5,7 @@ use native.Mathlib.Omega.{arith}
 use borrow.Author.Needs.{needs}
 use Rattle.base.proofs.Tests.{zeros}
 use Rattle.rules.specs.Editor.{look}
+use Rattle.rules.proofs.Changes.{told-none}
 use Rattle.rules.proofs.Checked.{good}
 use Rattle.rules.proofs.Laws.{unless-done, unless-refused, step-looking}
 use Rattle.rules.proofs.Walks.{slot-below}
@@ -22,8 +23,9 @@ refusal-requires c κs = search needs
 returns : tie.Need-returns
 unfolding look lookCode
 returns c =
-    rw (step-looking, c .refusal .ensures)
-    (unless-refused _ _ _ _ (c .before .before .look-code .ensures) (c .before .if1 .taken))
+    told-none _ _ _ _ _ (rw (step-looking, c .refusal .ensures)
+    (unless-refused _ _ _ _ (c .before .before .look-code .ensures) (c .before .if1 .taken)))
+    (rw (c .refusal .ensures))
 
 walk-requires : tie.Need-walk-requires
 unfolding lookCode
@@ -47,19 +49,19 @@ returns-2 : tie.Need-returns-2
 unfolding look lookCode
 returns-2 c =
     let at-walk = c .before .before .before .before in
-    rw (step-looking, c .refusal2 .ensures) (unless-done _ _ _ _ _
+    told-none _ _ _ _ _ (rw (step-looking, c .refusal2 .ensures) (unless-done _ _ _ _ _
     (at-walk .before .before .look-code .ensures) (at-walk .before .if1 .left)
     (stops _ _ _ _ _ _ (at-walk .walk .ensures) (c .before .before .enum-told .given .1)
-    (c .before .stood .ensures)))
+    (c .before .stood .ensures)))) (rw (c .refusal2 .ensures))
 
 returns-3 : tie.Need-returns-3
 unfolding look lookCode
 returns-3 c =
-    rw step-looking (unless-done _ _ _ _ _
+    told-none _ _ _ _ _ (rw step-looking (unless-done _ _ _ _ _
     (c .before .before .before .before .before .look-code .ensures)
     (c .before .before .before .before .if1 .left)
     (arrives _ _ _ _ _ _ (c .before .before .before .walk .ensures) (c .before .found .given .1)
-    refl))
+    refl))) refl
 
 pub look-spec : {M : Type 1} → statement M
 look-spec =

@@ -6,6 +6,7 @@ use borrow.Author.Needs.{needs}
 use Rattle.base.proofs.Tests.{tests}
 use Rattle.rules.specs.Editor.{pay}
 use Rattle.rules.specs.Facts.{Owable}
+use Rattle.rules.proofs.Changes.{unchanged}
 use Rattle.rules.proofs.Laws.{same}
 use Rattle.editor.proofs.pay.Statement.{statement}
 use Rattle.editor.proofs.pay.Tie as tie
@@ -33,9 +34,11 @@ refusal-requires-2 c κs = search needs
 
 returns : tie.Need-returns
 unfolding pay
-returns c =
-    λ es. rw (c .refusal2 .ensures, c .before .before .before .before .owed .given .1)
-    (search (tests, needs) depth 12)
+returns c = (
+  λ es. rw (c .refusal2 .ensures, c .before .before .before .before .owed .given .1)
+      (search (tests, needs) depth 12),
+  rw (c .refusal2 .ensures) (unchanged _),
+)
 
 shade-node-requires : tie.Need-shade-node-requires
 shade-node-requires c κs =
@@ -49,7 +52,10 @@ paid-requires c κs = search needs
 
 returns-2 : tie.Need-returns-2
 unfolding pay
-returns-2 c = λ es. rw (c .refusal .ensures, c .before .enum-told .given .1)
+returns-2 c = (
+  λ es. rw (c .refusal .ensures, c .before .enum-told .given .1),
+  rw (c .refusal .ensures) (unchanged _),
+)
 
 same-length : tie.Need-same-length
 same-length c = search needs
@@ -58,7 +64,7 @@ returns-3 : tie.Need-returns-3
 unfolding pay
 returns-3 c =
     let at-owed = c .before .before .before .before .before .before .before .before in
-    λ es. rw (at-owed .owed .given .1) (search (same, tests, needs) depth 12)
+    (λ es. rw (at-owed .owed .given .1) (search (same, tests, needs) depth 12), search needs)
 
 pub pay-spec : {M : Type 1} → statement M
 pay-spec =

@@ -3,6 +3,7 @@
 use mathlib.Core.Path.{sym, _∙_}
 use borrow.Author.Needs.{needs}
 use Rattle.rules.specs.Editor.{pay, shadeOwed}
+use Rattle.rules.proofs.Changes.{told, told-none}
 use Rattle.rules.proofs.Checked.{good, owable}
 use Rattle.rules.proofs.Laws.{unless-done, unless-refused, step-shading}
 use Rattle.editor.proofs.shade.Statement.{statement}
@@ -17,8 +18,9 @@ refusal-requires c κs = search needs
 returns : tie.Need-returns
 unfolding shadeOwed
 returns c =
-    rw (step-shading, c .refusal .ensures)
-    (unless-refused _ _ _ _ (c .before .before .check .ensures) (c .before .if1 .taken))
+    told-none _ _ _ _ _ (rw (step-shading, c .refusal .ensures)
+    (unless-refused _ _ _ _ (c .before .before .check .ensures) (c .before .if1 .taken)))
+    (rw (c .refusal .ensures))
 
 pay-requires : tie.Need-pay-requires
 pay-requires c κs = let g =
@@ -32,9 +34,10 @@ same-length c = search needs
 returns-2 : tie.Need-returns-2
 unfolding shadeOwed
 returns-2 c =
-    rw step-shading (unless-done _ _ _ _ _
+    let done = c .before .before .pay .ensures in
+    told _ _ _ _ _ _ (rw step-shading (unless-done _ _ _ _ _
     (c .before .before .before .before .before .check .ensures)
-    (c .before .before .before .before .if1 .left) (c .before .before .pay .ensures _))
+    (c .before .before .before .before .if1 .left) (done .0 _))) (done .1)
 
 pub shade-spec : {M : Type 1} → statement M
 shade-spec =

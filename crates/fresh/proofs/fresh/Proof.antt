@@ -21,8 +21,10 @@ returns : tie.Need-returns
 unfolding fresh
 returns c =
     let at-if1 = c .before .before in
-    rw (c .refusal .ensures, c .before .fresh .ensures)
-    (pick-no _ _ _ _ (not-yes _ (at-if1 .if1 .taken) ∙ at-if1 .before .size-ok .ensures) refl)
+    let bad = not-yes _ (at-if1 .if1 .taken) ∙ at-if1 .before .size-ok .ensures in (
+      rw (c .refusal .ensures, c .before .fresh .ensures) (pick-no _ _ _ _ bad refl),
+      rw (c .refusal .ensures),
+    )
 
 cast-nodes : tie.Need-cast-nodes
 unfolding sizeOk
@@ -66,9 +68,11 @@ unfolding fresh
 returns-2 c =
     let at-fill = c .before .before .before .before .before .before .before .before in
     let at-if1 = at-fill .before .before .before .before in
-    let at-size-ok = at-if1 .before in
-    pick-yes _ _ _ _ (not-no _ (at-if1 .if1 .left) ∙ at-size-ok .size-ok .ensures)
-    (rw (← at-fill .fill .ensures, ← c .before .last-of .ensures) (cc))
+    let at-size-ok = at-if1 .before in (
+      pick-yes _ _ _ _ (not-no _ (at-if1 .if1 .left) ∙ at-size-ok .size-ok .ensures)
+          (rw (← at-fill .fill .ensures, ← c .before .last-of .ensures) (cc)),
+      refl,
+    )
 
 pub fresh-spec : {M : Type 1} → statement M
 fresh-spec =

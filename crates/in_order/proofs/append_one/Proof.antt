@@ -16,7 +16,8 @@ cast-if1 : tie.Need-cast-if1
 cast-if1 c = search needs
 
 returns : tie.Need-returns
-returns c = stays _ _ _ _ _ (c .before .before .before .before .before .pre .0) _ (omega arith)
+returns c =
+    (omega arith, stays _ _ _ _ _ (c .before .before .before .before .before .pre .0))
 
 slice-read-if2 : tie.Need-slice-read-if2
 slice-read-if2 c =
@@ -38,20 +39,22 @@ add-t14 c =
     let at-entry = c .before .before .before .before .before .before .before .before in
     let g = at _ _ _ _ _ (at-entry .pre .0) in omega arith
 
+add-t15 : tie.Need-add-t15
+add-t15 c =
+    let at-entry = c .before .before .before .before .before .before .before .before .before in
+    let g = at _ _ _ _ _ (at-entry .pre .0) in omega arith
+
 same-length : tie.Need-same-length
 same-length c = search needs
 
 returns-2 : tie.Need-returns-2
 returns-2 c =
-    let at-entry = c .before .before .before .before .before .before .before .before in
+    let at-entry = c .before .before .before .before .before .before .before .before .before in
     let g =
     at _ _ _ _ _ (at-entry .pre .0) in (
       omega arith,
-      (
-        omega arith,
-        whitens _ _ _ _ _ (at-entry .pre .0) _ (at-entry .pre .1)
-            (omega arith) refl refl refl (c .before .if2 .taken),
-      ),
+      whitens _ _ _ _ _ (at-entry .pre .0) _ (at-entry .pre .1 .0)
+          (omega arith) refl refl refl refl (c .before .before .if2 .taken),
     )
 
 slice-read-if3 : tie.Need-slice-read-if3
@@ -67,7 +70,7 @@ append-white-requires c κs =
     at _ _ _ _ _ (at-entry .pre .0) in (
       at-entry .pre .0,
       (
-        at-entry .pre .1,
+        at-entry .pre .1 .0,
         (omega arith, c .before .before .before .if3 .taken),
       ),
     )
@@ -87,7 +90,7 @@ returns-3 c = search (tests, needs) depth 12
 returns-4 : tie.Need-returns-4
 returns-4 c =
     let at-entry = c .before .before .before .before .before .before .before .before .before in
-    stays _ _ _ _ _ (at-entry .pre .0) _ (omega arith)
+    (omega arith, stays _ _ _ _ _ (at-entry .pre .0))
 
 pub append-one-spec : {M : Type 1} → statement M
 append-one-spec =
@@ -100,6 +103,7 @@ append-one-spec =
     slice-write-colour
     add-t13
     add-t14
+    add-t15
     same-length
     returns-2
     slice-read-if3

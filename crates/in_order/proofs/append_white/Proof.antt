@@ -15,10 +15,10 @@ add-if1 : tie.Need-add-if1
 add-if1 c = search needs
 
 returns : tie.Need-returns
-returns c = stays _ _ _ _ _ (c .before .before .pre .0) _ (omega arith)
+returns c = (omega arith, stays _ _ _ _ _ (c .before .before .pre .0))
 
 returns-2 : tie.Need-returns-2
-returns-2 c = stays _ _ _ _ _ (c .before .before .before .pre .0) _ (omega arith)
+returns-2 c = (omega arith, stays _ _ _ _ _ (c .before .before .before .pre .0))
 
 mul-left : tie.Need-mul-left
 mul-left c = search needs
@@ -58,13 +58,10 @@ returns-3 : tie.Need-returns-3
 returns-3 c = let g =
     at _ _ _ _ _ (c .before .before .before .before .pre .0) in (
       omega arith,
-      (
-        omega arith,
-        appends _ _ _ _ _ (c .before .before .before .before .pre .0) _
-            (c .before .before .before .before .pre .1 .0)
-            (c .before .before .before .before .pre .1 .1 .0) refl refl refl
-            (c .before .before .before .before .pre .1 .1 .1) (omega arith) (c .before .if2 .left),
-      ),
+      appends _ _ _ _ _ (c .before .before .before .before .pre .0) _
+          (c .before .before .before .before .pre .1 .0)
+          (c .before .before .before .before .pre .1 .1 .0) refl refl refl refl
+          (c .before .before .before .before .pre .1 .1 .1) (omega arith) (c .before .if2 .left),
     )
 
 pub append-white-spec : {M : Type 1} → statement M

@@ -5,19 +5,17 @@ use Prim.Native.Nat.{_-_, _≤_}
 use mathlib.Core.Path.{_≡_, refl}
 use lib.ListN.{length}
 use native.Mathlib.Omega.{arith}
-use Rattle.rules.specs.Table.{state}
-use Rattle.ahead.specs.Leads.{Leads}
-use Rattle.ahead.proofs.Strides.{stay, on, fewer}
-use Rattle.in_order.specs.Sweeping.{swept}
+use Rattle.ahead.proofs.Strides.{fewer}
+use Rattle.in_order.specs.Sweeping.{AppendLeads}
+use Rattle.in_order.proofs.Sweeps.{stays, goes-on, told}
 use Rattle.in_order.proofs.appending.Statement.{statement}
 use Rattle.in_order.proofs.appending.Tie as tie
 
 abbrev Inv-loop : tie.InvT-loop
 Inv-loop left₀ right₀ colour₀ x cap s₀ left right colour s =
     (length left ≡ length left₀) × (length right ≡ length right₀) ×
-    (length colour ≡ length colour₀) × (s .d ≤ cap) × (s₀ .d ≤ s .d) × Leads
-    (state left₀ right₀ colour₀ (swept x s₀)) (s .d - s₀ .d)
-    (state left right colour (swept x s))
+    (length colour ≡ length colour₀) × (s .d ≤ cap) × (s .changed ≤ s .d) ×
+    AppendLeads left₀ right₀ colour₀ x s₀ left right colour s
 
 abbrev μ-loop : tie.MeasureT-loop
 μ-loop left₀ right₀ colour₀ x cap s₀ left right colour s = cap - s .d
@@ -27,18 +25,19 @@ loop-holds c = (
   refl,
   refl,
   refl,
-  c .before .before .before .pre .1 .1,
-  omega arith,
-  stay _ _ (omega arith)
-      (c .before .before .before .pre .0),
+  c .before .before .before .pre .1 .1 .0,
+  c .before .before .before .pre .1 .1 .1,
+  stays _ _ _ _ _ (c .before .before .before .pre .0),
 )
 
 append-one-requires : tie.Need-append-one-requires Inv-loop μ-loop
 append-one-requires c κs =
     let at-entry = c .before .before .before .before .before .before .before .before .before in (
-      c .before .before .before .before .before .loop .inv .5 .passes,
-      fewer _ _ _ (omega arith)
-          (at-entry .pre .1 .0),
+      c .before .before .before .before .before .loop .inv .5 .leads .passes,
+      (
+        fewer _ _ _ (omega arith) (at-entry .pre .1 .0),
+        c .before .before .before .before .before .loop .inv .4,
+      ),
     )
 
 same-length : tie.Need-same-length Inv-loop μ-loop
@@ -55,12 +54,8 @@ returns c =
     let at-append-one = c .before .before .before .before .before .before .before .before .before in
     let at-loop = at-append-one .before .before .before .before .before .before in (
       omega arith,
-      (
-        omega arith,
-        on _ _ _ _ _ _ (at-loop .loop .inv .4)
-            (at-append-one .append-one .ensures .1 .0) (at-loop .loop .inv .5)
-            (at-append-one .append-one .ensures .1 .1),
-      ),
+      goes-on _ _ _ _ _ _ _ _ _ _ _ _ _ (at-loop .loop .inv .5)
+          (at-append-one .append-one .ensures .1),
     )
 
 loop-less : tie.Need-loop-less Inv-loop μ-loop
@@ -74,10 +69,9 @@ loop-again c =
       omega arith,
       omega arith,
       omega arith,
-      omega arith,
-      on _ _ _ _ _ _
-          (at-loop .loop .inv .4) (at-append-one .append-one .ensures .1 .0) (at-loop .loop .inv .5)
-          (at-append-one .append-one .ensures .1 .1),
+      told _ _ _ _ _ _ _ _ _ (at-append-one .append-one .ensures .1) (at-loop .loop .inv .4),
+      goes-on _ _ _ _ _ _ _ _ _ _ _ _ _ (at-loop .loop .inv .5)
+          (at-append-one .append-one .ensures .1),
     )
 
 same-length-4 : tie.Need-same-length-4 Inv-loop μ-loop
@@ -92,10 +86,7 @@ same-length-6 c = omega arith
 returns-2 : tie.Need-returns-2 Inv-loop μ-loop
 returns-2 c = (
   c .before .before .loop .inv .3,
-  (
-    c .before .before .loop .inv .4,
-    c .before .before .loop .inv .5,
-  ),
+  c .before .before .loop .inv .5,
 )
 
 pub appending-spec : {M : Type 1} → statement M

@@ -12,13 +12,15 @@ cast-t10 c = search needs
 
 appending-requires : tie.Need-appending-requires
 appending-requires c κs =
-    let at-entry = c .before .before .before .before .before .before .before in
-    (begins _ _ _ _ _ (at-entry .pre .1 .1) (at-entry .pre .0), (at-entry .pre .1 .0, omega arith))
+    let at-entry = c .before .before .before .before .before .before .before in (
+      begins _ _ _ _ _ (at-entry .pre .1 .1) (at-entry .pre .0),
+      (at-entry .pre .1 .0, (omega arith, omega arith)),
+    )
 
 swept-requires : tie.Need-swept-requires
 swept-requires c κs =
     let at-appending = c .before .before .before .before .before .before in
-    let g = at _ _ _ _ _ (at-appending .appending .ensures .1 .1 .passes) in omega arith
+    let g = at _ _ _ _ _ (at-appending .appending .ensures .1 .leads .passes) in omega arith
 
 same-length : tie.Need-same-length
 same-length c = search needs
@@ -35,7 +37,8 @@ returns c =
     let at-entry = at-appending .before .before .before .before .before .before .before .before in (
       at-appending .appending .ensures .0,
       rw (c .swept .ensures)
-          (ends _ _ _ _ _ _ _ (at-entry .pre .1 .1) (at-appending .appending .ensures .1 .1)),
+          (ends _ _ _ _ _ _ _ _ (at-entry .pre .1 .1)
+          (at-appending .appending .ensures .1 .leads)),
     )
 
 pub appends-spec : {M : Type 1} → statement M

@@ -6,19 +6,20 @@ use lib.ListN.{length}
 use native.Mathlib.Omega.{arith}
 use borrow.Author.Needs.{needs}
 use Rattle.in_order.specs.Sweeping.{Shades}
-use Rattle.in_order.proofs.Sweeps.{shades-none, shades-more}
+use Rattle.in_order.proofs.Sweeps.{shades-none, shades-more, shades-few}
 use Rattle.in_order.proofs.shading.Statement.{statement}
 use Rattle.in_order.proofs.shading.Tie as tie
 
 abbrev Inv-loop : tie.InvT-loop
-Inv-loop colour₀ i cap d₀ colour d =
-    (length colour ≡ length colour₀) × (d ≤ cap) × Shades colour₀ i cap d colour
+Inv-loop colour₀ i cap d₀ changed₀ colour d changed =
+    (length colour ≡ length colour₀) × (d ≤ cap) × (changed ≤ d) ×
+    Shades colour₀ i cap d changed colour
 
 abbrev μ-loop : tie.MeasureT-loop
-μ-loop colour₀ i cap d₀ colour d = cap - d
+μ-loop colour₀ i cap d₀ changed₀ colour d changed = cap - d
 
 loop-holds : tie.Need-loop-holds Inv-loop μ-loop
-loop-holds c = (refl, omega arith, shades-none _ _ _)
+loop-holds c = (refl, omega arith, omega arith, shades-none _ _ _)
 
 add-if1 : tie.Need-add-if1 Inv-loop μ-loop
 add-if1 c = omega arith
@@ -41,6 +42,12 @@ cast-shade-node c = omega arith
 shade-node-requires : tie.Need-shade-node-requires Inv-loop μ-loop
 shade-node-requires c κs = omega arith
 
+cast-changed : tie.Need-cast-changed Inv-loop μ-loop
+cast-changed c = search needs
+
+add-changed : tie.Need-add-changed Inv-loop μ-loop
+add-changed c = omega arith
+
 add-d : tie.Need-add-d Inv-loop μ-loop
 add-d c = omega arith
 
@@ -49,11 +56,13 @@ loop-less c = omega arith
 
 loop-again : tie.Need-loop-again Inv-loop μ-loop
 loop-again c =
-    let at-loop = c .before .before .before .before .before .before .before in (
+    let at-loop = c .before .before .before .before .before .before .before in
+    let shaded = c .before .before .shade-node .ensures in (
       omega arith,
       omega arith,
-      rw (c .before .before .shade-node .ensures)
-          (shades-more _ _ _ _ _ (at-loop .loop .inv .2) (omega arith) (omega arith)),
+      shades-few _ _ _ _ _ _ (at-loop .loop .inv .2) (shaded .0) (shaded .1),
+      shades-more _ _ _ _ _ _ _ _ (at-loop .loop .inv .3) (omega arith) (omega arith) (shaded .0)
+          (shaded .1),
     )
 
 same-length-2 : tie.Need-same-length-2 Inv-loop μ-loop
@@ -76,6 +85,8 @@ shading-spec =
     add-shade-node
     cast-shade-node
     shade-node-requires
+    cast-changed
+    add-changed
     add-d
     loop-less
     loop-again

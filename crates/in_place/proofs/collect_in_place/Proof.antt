@@ -2,9 +2,10 @@
 -- record, and what `collect` says of the record that comes back holds of the cell it is stored to.
 -- A walk of the MIR, by hand. The record's borrow is opened, the record is copied out of its cell,
 -- the three slices and the copy are passed to `collect`, the record that comes back is stored over
--- the cell whole, and the borrow is closed at it. The slices go to the callee at their own
--- lifetimes, shares and ghost names, and are given up for good: what `collect` says of their last
--- lists is what is said here. The walk names no field of the record.
+-- the cell whole, the answer and the number are put together, and the borrow is closed at the
+-- record. The slices go to the callee at their own lifetimes, shares and ghost names, and are given
+-- up for good: what `collect` says of their last lists is what is said here. The walk names no
+-- field of the record.
 use mathlib.Core.Path.{_≡_, refl, ap}
 use mathlib.Core.List.{[], _∷_, List}
 use Prim.Native.Nat.{ℕ}
@@ -29,16 +30,15 @@ use denote.{Ref.MutRef, Ref.ptr-vals, Ref.mut-tells, Signature.plain, Struct.Ste
 use denote.Slice.{sliceVal, MutSlice, Room, slice-vals, mut-slice-tells}
 use denote.Steps.{only, opens, closes, owned, peeks, heard, nothing}
 use denote.Struct.Laws as LL
-use denote.Enum.Laws as EL
 use denote.Triple.{Entry.onEntry, Spec.Meets, Spec.tripleOf, Statement.Contract, Statement.Triple}
 use denote.Triple.{Call.calls-at, Clauses.ensured, Clauses.lasts, Table.entered, Table.cited}
 use denote.Triple.Walked.{says, Stays, stay-ref, gave-slice, walkOf, goes-ref, goes-gave-slice}
 use denote.Triple.Walked.{ends-at, walked, walk-meets}
-use Rattle.rules.specs.{Table.state, Table.outcome, Steps.step, Steps.collecting}
-use Rattle.rules.specs.{declared.Record.Record, declared.Made.Made}
+use Rattle.rules.specs.{Table.state, Table.outcome, Steps.step, Steps.collecting, Changes.changes}
+use Rattle.rules.specs.{declared.Record.Record, declared.Made.Made, declared.Told.Told}
 use Rattle.rules.proofs.Record as R
-use Rattle.rules.proofs.Answer as N
 use Rattle.rules.proofs.Made as T
+use Rattle.rules.proofs.Told as U
 use Rattle.collector.proofs.collect as g
 use Rattle.in_place.proofs.collect_in_place as f
 use Rattle.in_place.proofs.collect_in_place.Code as code
@@ -63,18 +63,31 @@ Collect 𝓤 H A at-mem run = tripleOf 𝓤 H A g.signature (g.spec 𝓤 H A at-
 abbrev Lists : Type 0
 Lists = List ℕ × (List ℕ × (List ℕ × (Unit {0} × Unit {0})))
 
--- what `collect` ensures of its result and of the last lists: its `ensures`, at the lists xs, ys
--- and cs and the record h
+-- what `collect` ensures of its result and of the last lists: its two `ensures`, at the lists xs,
+-- ys and cs and the record h
 abbrev Says : List ℕ → List ℕ → List ℕ → Record → Made → Lists → Type 0
 Says xs ys cs h r zs = outcome r (zs .0) (zs .1 .0) (zs .1 .1 .0)
     ≡ step collecting (state xs ys cs h)
 
--- a record's machine value, and a `Made`'s
+abbrev Counts : List ℕ → List ℕ → List ℕ → Record → Made → Type 0
+Counts xs ys cs h r = r .changed ≡ changes collecting (state xs ys cs h)
+
+-- a record's machine value
 abbrev mach : Record → Val
 mach h = LL.tuple-val R.the-type R.Laws.the-laws (R.the-type .to h)
 
+-- what is told of a `Made`, and its machine value
+abbrev told : Made → Told
+told r = record { answer = r .answer; changed = r .changed }
+
 abbrev ans : Made → Val
-ans r = only (EL.vals N.the-type N.Laws.the-laws (r .answer))
+ans r = LL.tuple-val U.the-type U.Laws.the-laws (U.the-type .to (told r))
+
+told-is : (r : Made) (vs : List Val) → Is T.the-row r vs
+    → Is U.the-row (told r) (LL.vals U.the-type U.Laws.the-laws (told r))
+told-is r vs is =
+    let fs = LL.owed T.the-type T.Laws.the-laws r vs is in
+    LL.owes U.the-type U.Laws.the-laws (told r) (fs .0, (fs .1 .0, tt))
 
 module _ {M : Type 1} (𝓤 : URA M) (H : Heap 𝓤) (A : Atoms 𝓤) (W : Given 𝓤 H A)
     (at-mem : Memory → SProp 𝓤) (run : Routine → Fun 𝓤) (κ₀ κ₁ κ₂ κ₃ : Lft) (q₀ q₁ q₂ q₃ : Share)
@@ -195,9 +208,11 @@ module _ {M : Type 1} (𝓤 : URA M) (H : Heap 𝓤) (A : Atoms 𝓤) (W : Given
       -- what `collect` ensures, at some last lists
       split ! $ move ! (1 ∷ []) $ use1 W
       (some (λ (zs : Lists). ‵ (lasts g.ended (κ₀, (κ₁, (κ₂, tt))) (x₀, (x₁, (x₂, (h, tt)))) zs)
-      ⊛ raw (fact 𝓤 (Says (x₀ .now) (x₁ .now) (x₂ .now) h r zs)))) (id⊢ 𝓤 _) $ pick ! (λ zs.
-      split ! $ move ! (1 ∷ []) $ heard ! (Says (x₀ .now) (x₁ .now) (x₂ .now) h r zs)
-      (λ e. fsplit ! $ fsplit ! $ move ! (1 ∷ []) $ feqL !
+      ⊛ raw (fact 𝓤 (Says (x₀ .now) (x₁ .now) (x₂ .now) h r zs)) ⊛ raw
+      (fact 𝓤 (Counts (x₀ .now) (x₁ .now) (x₂ .now) h r)))) (id⊢ 𝓤 _) $ pick ! (λ zs.
+      split ! $ move ! (1 ∷ []) $ split ! $ heard ! (Says (x₀ .now) (x₁ .now) (x₂ .now) h r zs)
+      (λ e. heard ! (Counts (x₀ .now) (x₁ .now) (x₂ .now) h r)
+      (λ n. fsplit ! $ fsplit ! $ move ! (1 ∷ []) $ feqL !
       (λ len₀. move ! (1 ∷ []) $ fsplit ! $ fsplit ! $ move ! (1 ∷ []) $ feqL !
       (λ len₁. move ! (1 ∷ []) $ fsplit ! $ fsplit ! $ move ! (1 ∷ []) $ feqL ! (λ len₂.
       -- [last list 2; …; last list 1; last list 0; the tokens and the result; the record's cell; …]
@@ -209,17 +224,19 @@ module _ {M : Type 1} (𝓤 : URA M) (H : Heap 𝓤) (A : Atoms 𝓤) (W : Given
       (ap only (LL.tells T.the-type T.Laws.the-laws r _ is)) refl $
       -- the record is stored over its cell, and the answer in the result
       assigns !
-      (of-opd ! (load ! (from ! (fld ! refl (stop !))) (look-in ! 25 (sub ! 1 refl (whole !)))))
+      (of-opd ! (load ! (from ! (fld ! refl (stop !))) (look-in ! 25 (sub ! 2 refl (whole !)))))
       (from ! (hop ! (look ! 27 refl) (stop !)))
       (store-raw ! 6 refl (LL.lawful R.the-type R.Laws.the-laws 𝓤 H A W .typed (r .rec) _
-      (LL.owed T.the-type T.Laws.the-laws r _ is .1 .0) .0)) $
+      (LL.owed T.the-type T.Laws.the-laws r _ is .1 .1 .0) .0)) $
       assigns !
-      (of-opd ! (load ! (from ! (fld ! refl (stop !))) (look-in ! 25 (sub ! 0 refl (whole !)))))
-      (from ! (stop !)) (init ! 35 refl
-      (EL.lawful N.the-type N.Laws.the-laws 𝓤 H A W tt .typed (r .answer) _
-      (LL.owed T.the-type T.Laws.the-laws r _ is .0) .0)) $
+      (agg !
+      (and-then ! (load ! (from ! (fld ! refl (stop !))) (look-in ! 25 (sub ! 0 refl (whole !))))
+      (and-then ! (load ! (from ! (fld ! refl (stop !)))
+      (look-in ! 25 (sub ! 1 refl (whole !)))) (no-more !)))) (from ! (stop !))
+      (init ! 35 refl
+      (LL.lawful U.the-type U.Laws.the-laws 𝓤 H A W .typed (told r) _ (told-is r _ is) .0)) $
       drop ! $ owned ! R.the-row (Is R.the-row) (LL.makes R.the-type R.Laws.the-plain 𝓤 H A)
-      (r .rec) _ (LL.owed T.the-type T.Laws.the-laws r _ is .1 .0) $ move !
+      (r .rec) _ (LL.owed T.the-type T.Laws.the-laws r _ is .1 .1 .0) $ move !
       (6 ∷ 0 ∷ 7 ∷ 8 ∷ 9 ∷ []) $ closes ! tt R.the-row (r .rec) (mach (r .rec) ∷ []) b o $
       -- [obs; the borrow; token 3; tokens; last list 2; …; last list 1; last list 0; true; _12; …]
       returns ! (look ! 33 refl) $ forget ! 9 refl $ forget ! 11 refl $ forget ! 13 refl $ forget !
@@ -235,8 +252,8 @@ module _ {M : Type 1} (𝓤 : URA M) (H : Heap 𝓤) (A : Atoms 𝓤) (W : Given
       keep ! (3 ∷ 7 ∷ 6 ∷ 4 ∷ 0 ∷ 1 ∷ 2 ∷ []) $
       suffices ! _ (ends-at 𝓤 H A f.ended stayed (f.clauses 𝓤 H A at-mem run) W
       (((κ₀, (κ₁, (κ₂, (κ₃, tt)))), (q₀, (q₁, (q₂, (q₃, tt)))), tt, a, vals), tt) (ans r)
-      (r .answer) (zs .0, (zs .1 .0, (zs .1 .1 .0, (r .rec, tt))))
-      (len₀, (len₁, (len₂, (tt, tt))))) $ says ! e $
+      (told r) (zs .0, (zs .1 .0, (zs .1 .1 .0, (r .rec, tt))))
+      (len₀, (len₁, (len₂, (tt, tt))))) $ says ! (e, n) $
       -- the four tokens
       split ! $ move ! (1 ∷ []) $ split ! $ move ! (1 ∷ []) $ split ! $ move ! (9 ∷ 1 ∷ []) $ join !
       $ move ! (1 ∷ 0 ∷ []) $ join ! $ move ! (1 ∷ 0 ∷ []) $ join ! $ move ! (1 ∷ 0 ∷ []) $ join
@@ -245,9 +262,9 @@ module _ {M : Type 1} (𝓤 : URA M) (H : Heap 𝓤) (A : Atoms 𝓤) (W : Given
       feqI ! (List Val) (vptr b o ∷ []) (vptr b o ∷ []) refl $ move ! (0 ∷ 4 ∷ 5 ∷ []) $ fjoin3 ! $
       nothing ! $ move ! (1 ∷ 0 ∷ []) $ fjoin ! $ move ! (3 ∷ 0 ∷ []) $ fjoin ! $ move !
       (2 ∷ 0 ∷ []) $ fjoin ! $ move ! (1 ∷ 0 ∷ []) $ fjoin ! $
-      owned ! N.the-row (Is N.the-row) (EL.makes N.the-type N.Laws.the-plain 𝓤 H A) (r .answer) _
-      (LL.owed T.the-type T.Laws.the-laws r _ is .0) $ move ! (1 ∷ 0 ∷ []) $ done
-      !)))))))))))))))))))))))
+      owned ! U.the-row (Is U.the-row) (LL.makes U.the-type U.Laws.the-plain 𝓤 H A) (told r) _
+      (told-is r _ is) $ move ! (1 ∷ 0 ∷ []) $ done
+      !))))))))))))))))))))))))
 
 meets : {M : Type 1} (𝓤 : URA M) (H : Heap 𝓤) (A : Atoms 𝓤) → Given 𝓤 H A
     → (at-mem : Memory → SProp 𝓤) (run : Routine → Fun 𝓤) (𝓣 : Tables 𝓤 H)

@@ -6,7 +6,7 @@ use lib.ListN.{length}
 use native.Mathlib.Omega.{arith}
 use borrow.Author.Needs.{needs}
 use Rattle.rules.specs.Table.{state}
-use Rattle.jenturik_c.proofs.Flats.{Stands, starts, fits, goes-on, ends}
+use Rattle.jenturik_c.proofs.Flats.{Stands, starts, can-go, fits, goes-on, ends}
 use Rattle.jenturik_c.proofs.follow.Statement.{statement}
 use Rattle.jenturik_c.proofs.follow.Tie as tie
 
@@ -27,12 +27,16 @@ loop-holds c = (refl, refl, refl, starts _ _ _ _ _ _ (c .begin .ensures))
 
 step-at-requires : tie.Need-step-at-requires Inv-loop μ-loop
 step-at-requires c κs =
-    fits _ _ (c .before .before .before .before .before .loop .g) _
+    fits _ _ _ (c .before .before .before .before .before .loop .g) _
     (c .before .before .before .before .before .loop .inv .3)
     (c .before .before .before .if1 .taken)
 
 advance-requires : tie.Need-advance-requires Inv-loop μ-loop
-advance-requires c κs = c .before .before .before .before .if1 .taken
+advance-requires c κs =
+    let at-if1 = c .before .before .before .before in
+    let at-loop = at-if1 .before .before in
+    can-go _ _ _ _ (at-loop .before .begin .result) _ _ (at-loop .loop .inv .3)
+    (at-if1 .if1 .taken) (omega arith)
 
 loop-less : tie.Need-loop-less Inv-loop μ-loop
 loop-less c =
@@ -40,7 +44,7 @@ loop-less c =
     let at-step-at = at-advance .before in
     let at-if1 = at-step-at .before .before .before .before in
     let at-loop = at-if1 .before .before in
-    goes-on _ _ _ _ (at-loop .loop .inv .3) (at-if1 .if1 .taken) _ _ _ _ _
+    goes-on _ _ _ _ _ (at-loop .loop .inv .3) (at-if1 .if1 .taken) _ _ _ _ _
     (at-step-at .step-at .ensures) (at-advance .advance .ensures) .1
 
 loop-again : tie.Need-loop-again Inv-loop μ-loop
@@ -52,7 +56,7 @@ loop-again c =
       omega arith,
       omega arith,
       omega arith,
-      goes-on _ _ _ _ (at-loop .loop .inv .3)
+      goes-on _ _ _ _ _ (at-loop .loop .inv .3)
           (at-if1 .if1 .taken) _ _ _ _ _ (at-step-at .step-at .ensures)
           (at-advance .advance .ensures) .0,
     )

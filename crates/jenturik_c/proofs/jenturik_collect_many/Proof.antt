@@ -1,9 +1,11 @@
 -- Words that are no record's are refused with 2. Else the batch is made over the record that the
 -- words are: its two facts are the face's, and the record's words are written back.
-use mathlib.Core.Path.{_∙_}
+use mathlib.Core.Path.{refl, ap, _∙_}
 use borrow.Author.Needs.{needs}
 use Rattle.base.proofs.Tests.{not-no, not-yes}
-use Rattle.jenturik_c.proofs.Faces.{spurned-run, spurned-last, faces-run, faces-last}
+use Rattle.jenturik_c.proofs.Faces.{spurned-run, spurned-count, spurned-last}
+use Rattle.jenturik_c.proofs.Faces.{faces-run, faces-count, faces-last}
+use Rattle.jenturik_c.specs.Face.{fitted}
 use Rattle.jenturik_c.proofs.jenturik_collect_many.Statement.{statement}
 use Rattle.jenturik_c.proofs.jenturik_collect_many.Tie as tie
 
@@ -12,8 +14,13 @@ is-record-requires c κs = search needs
 
 returns : tie.Need-returns
 returns c =
-    let none = not-yes _ (c .if1 .taken) ∙ c .before .is-record .ensures in
-    (spurned-run _ _ _ _ none _, (spurned-last _ _ _ _ none _, λ h. h))
+    let none = not-yes _ (c .if1 .taken) ∙ c .before .is-record .ensures in (
+      spurned-run _ _ _ _ none _,
+      (
+        spurned-last _ _ _ _ none _,
+        (λ h. h, spurned-count _ _ _ _ none _ _ refl),
+      ),
+    )
 
 record-of-requires : tie.Need-record-of-requires
 record-of-requires c κs =
@@ -26,20 +33,17 @@ collect-many-requires c κs = search needs
 words-of-requires : tie.Need-words-of-requires
 words-of-requires c κs = search needs
 
+fitted-requires : tie.Need-fitted-requires
+fitted-requires c κs = search needs
+
+node-requires : tie.Need-node-requires
+node-requires c κs = search needs
+
 what-requires : tie.Need-what-requires
 what-requires c κs = search needs
 
 code-requires : tie.Need-code-requires
 code-requires c κs = search needs
-
-cast-t22 : tie.Need-cast-t22
-cast-t22 c = search needs
-
-node-requires : tie.Need-node-requires
-node-requires c κs = search needs
-
-cast-t24 : tie.Need-cast-t24
-cast-t24 c = search needs
 
 same-length : tie.Need-same-length
 same-length c = search needs
@@ -53,19 +57,24 @@ same-length-3 c = search needs
 returns-2 : tie.Need-returns-2
 returns-2 c =
     let at-collect-many = c .before .before .before .before .before .before .before .before .before
-    .before .before in
+    .before .before .before in
     let at-record-of = at-collect-many .before in
     let at-if1 = at-record-of .before .before .before .before in
     let a-record = not-no _ (at-if1 .if1 .left) ∙ at-if1 .before .is-record .ensures in
     let same = at-record-of .record-of .ensures in
-    let written = c .before .before .before .words-of .ensures in
+    let at-fitted = c .before .before .before in
+    let written = at-fitted .before .words-of .ensures in
     let many = at-collect-many .collect-many .ensures in (
-      rw (c .before .code .ensures) (faces-run _ _ _ _ _ _ _ _ _ a-record same _ _ _ _ (many .0)
+      rw (c .code .ensures) (faces-run _ _ _ _ _ _ _ _ _ a-record same _ _ _ _ (many .0 .0)
           (written .0)),
       (
-        faces-last _ _ _ _ _ _ _ _ a-record same (many .1)
-            (rw (c .before .before .what .ensures, c .before .code .ensures, c .node .ensures)),
-        λ h. written .1,
+        faces-last _ _ _ _ _ _ _ _ a-record same (many .0 .1)
+            (rw (c .before .what .ensures, c .code .ensures, c .before .before .node .ensures)),
+        (
+          λ h. written .1,
+          faces-count _ _ _ _ _ a-record same _ _
+              (at-fitted .fitted .ensures ∙ ap fitted (many .1)),
+        ),
       ),
     )
 
@@ -78,11 +87,10 @@ jenturik-collect-many-spec =
     record-of-requires
     collect-many-requires
     words-of-requires
+    fitted-requires
+    node-requires
     what-requires
     code-requires
-    cast-t22
-    node-requires
-    cast-t24
     same-length
     same-length-2
     same-length-3

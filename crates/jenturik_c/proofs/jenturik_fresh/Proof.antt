@@ -25,9 +25,9 @@ same-length-3 c = search needs
 returns : tie.Need-returns
 returns c =
     let at-fresh = c .before .before .before .before .before .before .before .before .before in (
-      shows _ _ _ _ _ _ _ (at-fresh .fresh .ensures) (c .before .words-of .ensures .0)
-          (c .tell .ensures),
-      c .before .words-of .ensures .1,
+      shows _ (at-fresh .fresh .result) _ _ _ _ _ (at-fresh .fresh .ensures .0)
+          (c .before .words-of .ensures .0) (c .tell .ensures .0),
+      (c .before .words-of .ensures .1, c .tell .ensures .1),
     )
 
 pub jenturik-fresh-spec : {M : Type 1} → statement M

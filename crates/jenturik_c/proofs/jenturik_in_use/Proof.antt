@@ -16,9 +16,11 @@ no-record-requires : tie.Need-no-record-requires
 no-record-requires c κs = search needs
 
 returns : tie.Need-returns
-returns c =
-    spurned _ _ _ _ (not-yes _ (c .before .if1 .taken) ∙ c .before .before .is-record .ensures) _ _
-    (c .no-record .ensures)
+returns c = (
+  spurned _ _ _ _ (not-yes _ (c .before .if1 .taken) ∙ c .before .before .is-record .ensures) _ _
+      (c .no-record .ensures .0),
+  c .no-record .ensures .1,
+)
 
 record-of-requires : tie.Need-record-of-requires
 record-of-requires c κs = (not-no _ (c .if1 .left) ∙ c .before .is-record .ensures)
@@ -30,10 +32,12 @@ tell-requires : tie.Need-tell-requires
 tell-requires c κs = search needs
 
 returns-2 : tie.Need-returns-2
-returns-2 c =
-    asked _ _ _ _ (not-no _ (c .before .before .before .if1 .left)
-    ∙ c .before .before .before .before .is-record .ensures) _ _ _ _
-    (c .before .before .record-of .ensures) (c .before .in-use .ensures) (c .tell .ensures)
+returns-2 c = (
+  asked _ _ _ _ (not-no _ (c .before .before .before .if1 .left)
+      ∙ c .before .before .before .before .is-record .ensures) _ _ _ _
+      (c .before .before .record-of .ensures) (c .before .in-use .ensures) (c .tell .ensures .0),
+  c .tell .ensures .1,
+)
 
 pub jenturik-in-use-spec : {M : Type 1} → statement M
 jenturik-in-use-spec =

@@ -25,9 +25,9 @@ same-length-3 c = search needs
 returns : tie.Need-returns
 returns c =
     let at-load = c .before .before .before .before .before .before .before .before .before in (
-      shows _ _ _ _ _ _ _ (at-load .load .ensures) (c .before .words-of .ensures .0)
-          (c .tell .ensures),
-      c .before .words-of .ensures .1,
+      shows _ (at-load .load .result) _ _ _ _ _ (at-load .load .ensures .0)
+          (c .before .words-of .ensures .0) (c .tell .ensures .0),
+      (c .before .words-of .ensures .1, c .tell .ensures .1),
     )
 
 pub jenturik-load-spec : {M : Type 1} → statement M

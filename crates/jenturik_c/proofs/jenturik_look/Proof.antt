@@ -3,7 +3,7 @@
 use mathlib.Core.Path.{_∙_}
 use borrow.Author.Needs.{needs}
 use Rattle.base.proofs.Tests.{not-no, not-yes}
-use Rattle.jenturik_c.proofs.Faces.{spurned}
+use Rattle.jenturik_c.proofs.Faces.{spurned, spurned-count, faces-count}
 use Rattle.jenturik_c.proofs.Kept.{looked}
 use Rattle.jenturik_c.proofs.jenturik_look.Statement.{statement}
 use Rattle.jenturik_c.proofs.jenturik_look.Tie as tie
@@ -16,8 +16,10 @@ no-record-requires c κs = search needs
 
 returns : tie.Need-returns
 returns c =
-    spurned _ _ _ _ (not-yes _ (c .before .if1 .taken) ∙ c .before .before .is-record .ensures) _ _
-    (c .no-record .ensures)
+    let none = not-yes _ (c .before .if1 .taken) ∙ c .before .before .is-record .ensures in (
+      spurned _ _ _ _ none _ _ (c .no-record .ensures .0),
+      spurned-count _ _ _ _ none _ _ (c .no-record .ensures .1),
+    )
 
 record-of-requires : tie.Need-record-of-requires
 record-of-requires c κs = (not-no _ (c .if1 .left) ∙ c .before .is-record .ensures)
@@ -30,9 +32,13 @@ tell-requires c κs = search needs
 
 returns-2 : tie.Need-returns-2
 returns-2 c =
-    looked _ _ _ _ (not-no _ (c .before .before .before .if1 .left)
-    ∙ c .before .before .before .before .is-record .ensures) _ _ _ _
-    (c .before .before .record-of .ensures) (c .before .look .ensures) (c .tell .ensures)
+    let a-record = not-no _ (c .before .before .before .if1 .left)
+    ∙ c .before .before .before .before .is-record .ensures in
+    let same = c .before .before .record-of .ensures in
+    let done = c .before .look .ensures in (
+      looked _ _ _ _ a-record _ (c .before .look .result) _ _ same (done .0) (c .tell .ensures .0),
+      faces-count _ _ _ _ _ a-record same _ _ (c .tell .ensures .1 ∙ done .1),
+    )
 
 pub jenturik-look-spec : {M : Type 1} → statement M
 jenturik-look-spec =

@@ -1,9 +1,11 @@
 -- Words that are no record's are refused with 2. Else the schedule is made over the record that the
 -- words are: its contract is the face's, and the record's words are written back.
-use mathlib.Core.Path.{_∙_}
+use mathlib.Core.Path.{refl, ap, _∙_}
 use borrow.Author.Needs.{needs}
 use Rattle.base.proofs.Tests.{not-no, not-yes}
-use Rattle.jenturik_c.proofs.Faces.{spurned-run, faces-run}
+use Rattle.jenturik_c.proofs.Faces.{spurned-run, spurned-count, faces-run}
+use Rattle.jenturik_c.proofs.Faces.{faces-count}
+use Rattle.jenturik_c.specs.Face.{fitted}
 use Rattle.jenturik_c.proofs.jenturik_schedule.Statement.{statement}
 use Rattle.jenturik_c.proofs.jenturik_schedule.Tie as tie
 
@@ -12,7 +14,8 @@ is-record-requires c κs = search needs
 
 returns : tie.Need-returns
 returns c =
-    (spurned-run _ _ _ _ (not-yes _ (c .if1 .taken) ∙ c .before .is-record .ensures) _, λ h. h)
+    let none = not-yes _ (c .if1 .taken) ∙ c .before .is-record .ensures in
+    (spurned-run _ _ _ _ none _, (λ h. h, spurned-count _ _ _ _ none _ _ refl))
 
 record-of-requires : tie.Need-record-of-requires
 record-of-requires c κs =
@@ -28,6 +31,9 @@ words-of-requires c κs = search needs
 cast-t19 : tie.Need-cast-t19
 cast-t19 c = search needs
 
+fitted-requires : tie.Need-fitted-requires
+fitted-requires c κs = search needs
+
 same-length : tie.Need-same-length
 same-length c = search needs
 
@@ -40,14 +46,18 @@ same-length-3 c = search needs
 returns-2 : tie.Need-returns-2
 returns-2 c =
     let at-schedule-of = c .before .before .before .before .before .before .before .before .before
-    in
+    .before in
     let at-record-of = at-schedule-of .before in
     let at-if1 = at-record-of .before .before .before .before in
-    let at-is-record = at-if1 .before in (
-      faces-run _ _ _ _ _ _ _ _ _ (not-no _ (at-if1 .if1 .left) ∙ at-is-record .is-record .ensures)
-          (at-record-of .record-of .ensures) _ _ _ _ (at-schedule-of .schedule-of .ensures)
-          (c .before .words-of .ensures .0),
-      λ h. c .before .words-of .ensures .1,
+    let a-record = not-no _ (at-if1 .if1 .left) ∙ at-if1 .before .is-record .ensures in
+    let same = at-record-of .record-of .ensures in
+    let done = at-schedule-of .schedule-of .ensures in
+    let written = c .before .before .words-of .ensures in (
+      faces-run _ _ _ _ _ _ _ _ _ a-record same _ _ _ _ (done .0) (written .0),
+      (
+        λ h. written .1,
+        faces-count _ _ _ _ _ a-record same _ _ (c .fitted .ensures ∙ ap fitted (done .1)),
+      ),
     )
 
 pub jenturik-schedule-spec : {M : Type 1} → statement M
@@ -60,6 +70,7 @@ jenturik-schedule-spec =
     schedule-of-requires
     words-of-requires
     cast-t19
+    fitted-requires
     same-length
     same-length-2
     same-length-3

@@ -3,7 +3,7 @@
 use mathlib.Core.Path.{_∙_}
 use borrow.Author.Needs.{needs}
 use Rattle.base.proofs.Tests.{not-no, not-yes}
-use Rattle.jenturik_c.proofs.Faces.{spurned, faces}
+use Rattle.jenturik_c.proofs.Faces.{spurned, spurned-count, faces, faces-count}
 use Rattle.jenturik_c.proofs.jenturik_take.Statement.{statement}
 use Rattle.jenturik_c.proofs.jenturik_take.Tie as tie
 
@@ -14,11 +14,11 @@ no-record-requires : tie.Need-no-record-requires
 no-record-requires c κs = search needs
 
 returns : tie.Need-returns
-returns c = (
-  spurned _ _ _ _ (not-yes _ (c .before .if1 .taken) ∙ c .before .before .is-record .ensures) _ _
-      (c .no-record .ensures),
-  λ h. h,
-)
+returns c =
+    let none = not-yes _ (c .before .if1 .taken) ∙ c .before .before .is-record .ensures in (
+      spurned _ _ _ _ none _ _ (c .no-record .ensures .0),
+      (λ h. h, spurned-count _ _ _ _ none _ _ (c .no-record .ensures .1)),
+    )
 
 record-of-requires : tie.Need-record-of-requires
 record-of-requires c κs =
@@ -48,11 +48,15 @@ returns-2 c =
     let at-take = c .before .before .before .before .before .before .before .before .before in
     let at-record-of = at-take .before in
     let at-if1 = at-record-of .before .before .before .before in
-    let at-is-record = at-if1 .before in (
-      faces _ _ _ _ _ _ _ _ _ (not-no _ (at-if1 .if1 .left) ∙ at-is-record .is-record .ensures)
-          (at-record-of .record-of .ensures) _ _ _ (at-take .take .ensures)
-          (c .before .words-of .ensures .0) (c .tell .ensures),
-      λ h. c .before .words-of .ensures .1,
+    let a-record = not-no _ (at-if1 .if1 .left) ∙ at-if1 .before .is-record .ensures in
+    let same = at-record-of .record-of .ensures in
+    let done = at-take .take .ensures in (
+      faces _ _ _ _ _ _ _ _ _ a-record same _ (at-take .take .result) _ (done .0)
+          (c .before .words-of .ensures .0) (c .tell .ensures .0),
+      (
+        λ h. c .before .words-of .ensures .1,
+        faces-count _ _ _ _ _ a-record same _ _ (c .tell .ensures .1 ∙ done .1),
+      ),
     )
 
 pub jenturik-take-spec : {M : Type 1} → statement M

@@ -1,9 +1,10 @@
 -- Where words are left over, the definition asks for what `unreadable` answers; else it is the
 -- schedule that `follow` makes.
+use mathlib.Core.Path.{refl}
 use borrow.Author.Needs.{needs}
 use Rattle.base.proofs.Tests.{pick-yes, pick-no, eq-yes, eq-no}
 use Rattle.calls.specs.Unreadable.{unreadable}
-use Rattle.jenturik_c.specs.Flat.{scheduleOf}
+use Rattle.jenturik_c.specs.Flat.{scheduleOf, changesOf}
 use Rattle.jenturik_c.proofs.schedule_of.Statement.{statement}
 use Rattle.jenturik_c.proofs.schedule_of.Tie as tie
 
@@ -11,8 +12,10 @@ unreadable-requires : tie.Need-unreadable-requires
 unreadable-requires c κs = search needs
 
 returns : tie.Need-returns
-unfolding scheduleOf unreadable
-returns c = pick-no _ _ _ _ (eq-no _ _ (c .before .if1 .taken)) (rw (c .unreadable .ensures))
+unfolding scheduleOf changesOf unreadable
+returns c =
+    let left = eq-no _ _ (c .before .if1 .taken) in
+    (pick-no _ _ _ _ left (rw (c .unreadable .ensures)), pick-no _ _ _ _ left refl)
 
 follow-requires : tie.Need-follow-requires
 follow-requires c κs = search needs
@@ -27,11 +30,14 @@ same-length-3 : tie.Need-same-length-3
 same-length-3 c = search needs
 
 returns-2 : tie.Need-returns-2
-unfolding scheduleOf unreadable
+unfolding scheduleOf changesOf unreadable
 returns-2 c =
     let at-follow = c .before .before .before .before .before .before in
     let at-if1 = at-follow .before .before .before .before in
-    pick-yes _ _ _ _ (eq-yes _ _ (at-if1 .if1 .left)) (at-follow .follow .ensures)
+    let whole = eq-yes _ _ (at-if1 .if1 .left) in (
+      pick-yes _ _ _ _ whole (at-follow .follow .ensures .0),
+      pick-yes _ _ _ _ whole (at-follow .follow .ensures .1),
+    )
 
 pub schedule-of-spec : {M : Type 1} → statement M
 schedule-of-spec =

@@ -1,4 +1,5 @@
--- The three numbers are the answer's, in wider types.
+-- The three numbers are the answer's, and the fourth is the one given, in wider types.
+use mathlib.Core.Path.{refl}
 use borrow.Author.Needs.{needs}
 use Rattle.jenturik_c.proofs.tell.Statement.{statement}
 use Rattle.jenturik_c.proofs.tell.Tie as tie
@@ -6,24 +7,24 @@ use Rattle.jenturik_c.proofs.tell.Tie as tie
 what-requires : tie.Need-what-requires
 what-requires c κs = search needs
 
-cast-t3 : tie.Need-cast-t3
-cast-t3 c = search needs
+cast-t4 : tie.Need-cast-t4
+cast-t4 c = search needs
 
 code-requires : tie.Need-code-requires
 code-requires c κs = search needs
 
-cast-t5 : tie.Need-cast-t5
-cast-t5 c = search needs
+cast-t6 : tie.Need-cast-t6
+cast-t6 c = search needs
 
 node-requires : tie.Need-node-requires
 node-requires c κs = search needs
 
-cast-t7 : tie.Need-cast-t7
-cast-t7 c = search needs
+cast-t8 : tie.Need-cast-t8
+cast-t8 c = search needs
 
 returns : tie.Need-returns
-returns c = cc
+returns c = (cc, refl)
 
 pub tell-spec : {M : Type 1} → statement M
 tell-spec =
-    tie.close (tie.spec what-requires cast-t3 code-requires cast-t5 node-requires cast-t7 returns)
+    tie.close (tie.spec what-requires cast-t4 code-requires cast-t6 node-requires cast-t8 returns)

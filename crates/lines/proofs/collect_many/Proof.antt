@@ -21,7 +21,7 @@ same-length-3 c = search needs
 returns : tie.Need-returns
 returns c =
     let at-collect-many = c .before .before .before .before .before .before .before .before in
-    rw (c .code .ensures) (at-collect-many .collect-many .ensures .0)
+    rw (c .code .ensures) (at-collect-many .collect-many .ensures .0 .0)
 
 pub collect-many-spec : {M : Type 1} → statement M
 collect-many-spec =

@@ -43,7 +43,7 @@ returns c =
     let at-step = c .before .before .before .before .before .before .before in
     let at-said = at-step .before .before .before .before .before in
     let at-read = at-said .before .before in
-    rw (← at-read .read .ensures, at-said .said .given .1, ← at-step .step .ensures)
+    rw (← at-read .read .ensures, at-said .said .given .1, ← at-step .step .ensures .0)
     (c .answered .ensures _ _ _)
 
 same-length-4 : tie.Need-same-length-4

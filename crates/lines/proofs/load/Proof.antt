@@ -29,7 +29,7 @@ returns : tie.Need-returns
 unfolding loaded
 returns c =
     let at-load = c .before .before .before .before .before .before .before in
-    rw (← at-load .load .ensures) (c .answered .ensures _ _ _)
+    rw (← at-load .load .ensures .0) (c .answered .ensures _ _ _)
 
 pub load-spec : {M : Type 1} → statement M
 load-spec =

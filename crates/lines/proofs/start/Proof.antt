@@ -51,7 +51,7 @@ returns : tie.Need-returns
 returns c =
     let at-fresh = c .before .before .before .before .before .before .before in
     let e =
-    rw sub-zero at (at-fresh .fresh .ensures) in rw (sub-zero, ← e) (c .answered .ensures _ _ _)
+    rw sub-zero at (at-fresh .fresh .ensures .0) in rw (sub-zero, ← e) (c .answered .ensures _ _ _)
 
 pub start-spec : {M : Type 1} → statement M
 start-spec =

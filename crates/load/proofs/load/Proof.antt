@@ -14,9 +14,11 @@ refused-requires : tie.Need-refused-requires
 refused-requires c κs = search needs
 
 returns : tie.Need-returns
-returns c =
-    load-size _ _ _ _ _ _ (not-yes _ (c .before .if1 .taken) ∙ c .before .before .size-ok .ensures)
-    (c .refused .ensures _ _ _ _ _)
+returns c = (
+  load-size _ _ _ _ _ _ (not-yes _ (c .before .if1 .taken) ∙ c .before .before .size-ok .ensures)
+      (c .refused .ensures .0 _ _ _ _ _),
+  c .refused .ensures .1,
+)
 
 cast-first-bad : tie.Need-cast-first-bad
 cast-first-bad c = let z =
@@ -36,10 +38,12 @@ refused-requires-2 c κs = search needs
 
 returns-2 : tie.Need-returns-2
 returns-2 c =
-    let at-size = c .before .before .before in
-    load-bad _ _ _ _ _ _ _ (not-no _ (at-size .if1 .left) ∙ at-size .before .size-ok .ensures)
-    (c .before .before .first-bad .ensures) (c .before .if2 .taken)
-    (c .refused2 .ensures _ _ _ _ _)
+    let at-size = c .before .before .before in (
+      load-bad _ _ _ _ _ _ _ (not-no _ (at-size .if1 .left) ∙ at-size .before .size-ok .ensures)
+          (c .before .before .first-bad .ensures) (c .before .if2 .taken)
+          (c .refused2 .ensures .0 _ _ _ _ _),
+      c .refused2 .ensures .1,
+    )
 
 cast-load-good : tie.Need-cast-load-good
 cast-load-good c =
@@ -87,10 +91,12 @@ returns-3 : tie.Need-returns-3
 returns-3 c =
     let at-good = c .before .before .before .before .before .before in
     let at-bad = at-good .before .before .before .before .before in
-    let at-size = at-bad .before in
-    load-whole _ _ _ _ _ _ _ (not-no _ (at-size .if1 .left) ∙ at-size .before .size-ok .ensures)
-    (at-bad .first-bad .ensures) (at-good .before .before .before .before .if2 .left)
-    (at-good .load-good .ensures)
+    let at-size = at-bad .before in (
+      load-whole _ _ _ _ _ _ _ (not-no _ (at-size .if1 .left) ∙ at-size .before .size-ok .ensures)
+          (at-bad .first-bad .ensures) (at-good .before .before .before .before .if2 .left)
+          (at-good .load-good .ensures .0),
+      at-good .load-good .ensures .1,
+    )
 
 pub load-spec : {M : Type 1} → statement M
 load-spec =

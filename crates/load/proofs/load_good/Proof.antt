@@ -100,13 +100,15 @@ returns c =
     let at-left = at-table .before .before .before .before .before .before .before .before .before
     .before in
     let at-right = at-table .before .before .before .before .before .before .before .before in
-    let at-entry = at-left .before .before .before .before .before .before .before in
-    rw (
-      copied-part _ _ _ (at-entry .pre .1 .1 .1 .0) (at-left .narrow .ensures),
-      copied-part _ _ _
-          (at-entry .pre .1 .1 .1 .1 .0) (at-right .narrow2 .ensures),
-    ) at
-    (at-table .load-table .ensures)
+    let at-entry = at-left .before .before .before .before .before .before .before in (
+      rw (
+        copied-part _ _ _ (at-entry .pre .1 .1 .1 .0) (at-left .narrow .ensures),
+        copied-part _ _ _
+            (at-entry .pre .1 .1 .1 .1 .0) (at-right .narrow2 .ensures),
+      ) at
+          (at-table .load-table .ensures .0),
+      at-table .load-table .ensures .1,
+    )
 
 pub load-good-spec : {M : Type 1} → statement M
 load-good-spec =

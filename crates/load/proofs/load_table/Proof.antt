@@ -1,6 +1,6 @@
 -- `load_table` meets its contract: the answer is that of the judges, and it tells whether the lists
 -- are copied.
-use mathlib.Core.Path.{sym, _∙_}
+use mathlib.Core.Path.{refl, sym, _∙_}
 use native.Mathlib.Omega.{arith}
 use Rattle.load.proofs.Answers.{load-refused, load-done}
 use borrow.Author.Needs.{needs}
@@ -25,9 +25,11 @@ fresh-requires c κs = search needs
 
 returns : tie.Need-returns
 returns c =
-    let at-judge = c .before .before .before in
-    load-refused _ _ _ _ _ _ _ _ (at-judge .judge .ensures)
-    (λ q. c .before .if1 .taken (c .before .before .code .ensures ∙ q)) (c .fresh .ensures)
+    let at-judge = c .before .before .before in (
+      load-refused _ _ _ _ _ _ _ _ (at-judge .judge .ensures)
+          (λ q. c .before .if1 .taken (c .before .before .code .ensures ∙ q)) (c .fresh .ensures),
+      refl,
+    )
 
 copy-requires : tie.Need-copy-requires
 copy-requires c κs = search needs
@@ -60,12 +62,14 @@ returns-2 c =
     let at-code = c .before .before .before .before .before .before .before .before .before .before
     .before .before .before .before in
     let at-judge = at-code .before .before in
-    let at-entry = at-judge .before .before .before .before .before .before in
-    load-done _ _ _ _ _ _ _ _ _ _ _ _ _ _ (at-judge .judge .ensures)
-    (sym (at-code .before .code .ensures) ∙ at-code .if1 .left) (at-copy .copy .ensures)
-    (at-copy2 .copy2 .ensures) (at-entry .pre .1 .1 .1 .1 .1 .1 .1 .0)
-    (c .before .before .before .before .whiten .ensures) (c .before .node .ensures)
-    (c .fresh2 .ensures)
+    let at-entry = at-judge .before .before .before .before .before .before in (
+      load-done _ _ _ _ _ _ _ _ _ _ _ _ _ _ (at-judge .judge .ensures)
+          (sym (at-code .before .code .ensures) ∙ at-code .if1 .left) (at-copy .copy .ensures)
+          (at-copy2 .copy2 .ensures) (at-entry .pre .1 .1 .1 .1 .1 .1 .1 .0)
+          (c .before .before .before .before .whiten .ensures) (c .before .node .ensures)
+          (c .fresh2 .ensures),
+      refl,
+    )
 
 pub load-table-spec : {M : Type 1} → statement M
 load-table-spec =

@@ -14,11 +14,13 @@ refusal-requires : tie.Need-refusal-requires
 refusal-requires c κs = search needs
 
 returns : tie.Need-returns
-returns c m r given edges colours =
-    rw (c .refusal .ensures)
-    (load-refused m r given edges colours
-    (refused (c .before .before .args .code) (c .before .before .args .node)) _ _ refl
-    (omega arith) (c .before .fresh .ensures))
+returns c = (
+  λ m r given edges colours. rw (c .refusal .ensures)
+      (load-refused m r given edges colours
+      (refused (c .before .before .args .code) (c .before .before .args .node)) _ _ refl
+      (omega arith) (c .before .fresh .ensures)),
+  rw (c .refusal .ensures) refl,
+)
 
 pub refused-spec : {M : Type 1} → statement M
 refused-spec = tie.close (tie.spec fresh-requires refusal-requires returns)

@@ -50,7 +50,7 @@ returns c =
     at _ _ _ _ _ (at-entry .pre .0 .passes) in
     looks-on _ _ _ _ _ _ _ _ (at-entry .pre .0) (at-entry .pre .1)
     (c .before .before .before .before .idle-looks .ensures .1) (omega arith) (omega arith)
-    (c .before .before .around .ensures) refl refl refl refl refl
+    (c .before .before .around .ensures) refl refl refl refl refl refl
 
 pub look-on-spec : {M : Type 1} → statement M
 look-on-spec =

@@ -35,7 +35,7 @@ returns c =
     .before in (
       c .before .before .before .marking .ensures .valid .within,
       rw (c .standing .ensures)
-          (ends _ _ _ _ (at-entry .pre .1 .1) _ _ _ _ _
+          (ends _ _ _ _ (at-entry .pre .1 .1) _ _ _ _ _ _
           (c .before .before .before .marking .ensures .leads)),
     )
 

@@ -4,6 +4,7 @@ use native.Mathlib.Omega.{arith}
 use borrow.Author.Needs.{needs}
 use Rattle.base.proofs.Tests.{tests}
 use Rattle.rules.specs.Table.{shadeIn}
+use Rattle.rules.proofs.Changes.{unchanged, one-grayed}
 use Rattle.scanning.proofs.Marks.{grayed-more}
 use Rattle.scanning.proofs.shade_and_count.Statement.{statement}
 use Rattle.scanning.proofs.shade_and_count.Tie as tie
@@ -19,11 +20,14 @@ same-length c = search needs
 
 returns : tie.Need-returns
 unfolding shadeIn
-returns c = (omega arith, (search (tests, needs) depth 12, grayed-more _ _ (omega arith)))
+returns c = (
+  (omega arith, (search (tests, needs) depth 12, grayed-more _ _ (omega arith))),
+  search (one-grayed, needs),
+)
 
 returns-2 : tie.Need-returns-2
 unfolding shadeIn
-returns-2 c = (omega arith, (search (tests, needs) depth 12, omega arith))
+returns-2 c = ((omega arith, (search (tests, needs) depth 12, omega arith)), unchanged _)
 
 pub shade-and-count-spec : {M : Type 1} → statement M
 shade-and-count-spec =

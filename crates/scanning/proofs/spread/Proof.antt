@@ -3,7 +3,7 @@
 -- more.
 use native.Mathlib.Omega.{arith}
 use borrow.Author.Needs.{needs}
-use Rattle.scanning.proofs.Marks.{few-left}
+use Rattle.scanning.proofs.Marks.{few-left, both-counted}
 use Rattle.scanning.proofs.spread.Statement.{statement}
 use Rattle.scanning.proofs.spread.Tie as tie
 
@@ -29,24 +29,24 @@ returns : tie.Need-returns
 returns c =
     let at-second = c .before .before .before .before .before .before .before in
     let at-first = at-second .before .before .before .before in
-    let at-entry = at-first .before .before .before in (
-      omega arith,
+    let at-entry = at-first .before .before .before in
+    let first = at-first .shade-and-count .ensures in
+    let second = at-second .shade-and-count2 .ensures in
+    let black = c .before .before .before .blacken .ensures in (
       (
-        λ m h k. c .newer .ensures m h k,
+        omega arith,
         (
-          rw (
-            c .before .before .before .blacken .ensures,
-            at-second .shade-and-count2 .ensures .1 .0,
-            at-first .shade-and-count .ensures .1 .0,
+          λ m h k. c .newer .ensures m h k,
+          (
+            rw (black, second .0 .1 .0, first .0 .1 .0),
+            few-left _ _ _ _ _ _ _ _ _ (omega arith) (omega arith) (omega arith)
+                (at-entry .pre .1 .1 .1) (first .0 .1 .0) (second .0 .1 .0) black
+                (first .0 .1 .1) (second .0 .1 .1),
           ),
-          few-left _ _ _ _ _ _ _ _ _ (omega arith) (omega arith)
-              (omega arith) (at-entry .pre .1 .1 .1) (at-first .shade-and-count .ensures .1 .0)
-              (at-second .shade-and-count2 .ensures .1 .0)
-              (c .before .before .before .blacken .ensures)
-              (at-first .shade-and-count .ensures .1 .1)
-              (at-second .shade-and-count2 .ensures .1 .1),
         ),
       ),
+      both-counted _ _ _ _ _ _ _ (omega (arith, at-entry .pre)) (omega (arith, at-entry .pre))
+          (first .0 .1 .0) (second .0 .1 .0) (first .1) (second .1),
     )
 
 pub spread-spec : {M : Type 1} → statement M

@@ -91,7 +91,7 @@ add-t21 c =
     let at-entry = at-spread .before .before .before .before .before .before .before in
     let g = at _ _ _ _ _ (at-entry .pre .0 .passes) in
     let o = one _ _ _ _ _ _ (at-entry .pre .0) (at-entry .pre .1 .1) in
-    omega (arith, at-entry .pre .0 .most, at-spread .spread .ensures .0)
+    omega (arith, at-entry .pre .0 .most, at-spread .spread .ensures .0 .0)
 
 sub-t22 : tie.Need-sub-t22
 sub-t22 c =
@@ -101,20 +101,37 @@ sub-t22 c =
     let o = one _ _ _ _ _ _ (at-entry .pre .0) (at-entry .pre .1 .1) in
     omega (arith, at-entry .pre .0 .most)
 
+add-t23 : tie.Need-add-t23
+add-t23 c =
+    let at-spread = c .before .before .before .before .before .before .before .before .before
+    .before .before in
+    let at-entry = at-spread .before .before .before .before .before .before .before in
+    let g = at _ _ _ _ _ (at-entry .pre .0 .passes) in
+    omega (arith, at-entry .pre .0 .told, at-spread .spread .ensures .0 .0)
+
+add-t24 : tie.Need-add-t24
+add-t24 c =
+    let at-spread = c .before .before .before .before .before .before .before .before .before
+    .before .before in
+    let at-entry = at-spread .before .before .before .before .before .before .before in
+    let g = at _ _ _ _ _ (at-entry .pre .0 .passes) in
+    omega (arith, at-entry .pre .0 .told, at-spread .spread .ensures .0 .0)
+
 same-length : tie.Need-same-length
 same-length c = search needs
 
 returns : tie.Need-returns
 returns c =
-    let at-spread = c .before .before .before .before .before .before .before .before .before in
+    let at-spread = c .before .before .before .before .before .before .before .before .before
+    .before .before in
     let at-entry = at-spread .before .before .before .before .before .before .before in
     let g = at _ _ _ _ _ (at-entry .pre .0 .passes) in
+    let spread = at-spread .spread .ensures in
     visits _ _ _ _ _ _ (at-entry .pre .0) (at-entry .pre .1 .1) (at-entry .pre .1 .0) _ _ _
-    (at-spread .spread .ensures .1 .1 .0) (omega arith)
-    (at-spread .spread .ensures .1 .1 .1) (at-spread .spread .ensures .0)
-    (c .before .before .before .before .before .around .ensures) refl refl refl refl
-    (at-spread .spread .ensures .1 .0 _ (at-entry .pre .1 .1 .left .below)
-    (at-entry .pre .1 .1 .right .below))
+    (spread .0 .1 .1 .0) (omega arith) (spread .0 .1 .1 .1) (spread .0 .0)
+    (c .before .before .before .before .before .before .before .around .ensures) refl refl refl refl
+    (spread .0 .1 .0 _ (at-entry .pre .1 .1 .left .below) (at-entry .pre .1 .1 .right .below)) refl
+    (spread .1)
 
 pub visit-spec : {M : Type 1} → statement M
 visit-spec =
@@ -133,5 +150,7 @@ visit-spec =
     add-t20
     add-t21
     sub-t22
+    add-t23
+    add-t24
     same-length
     returns)

@@ -8,6 +8,12 @@ use Rattle.schedule.proofs.after.Tie as tie
 add-next : tie.Need-add-next
 add-next c = search needs
 
+cast-changed : tie.Need-cast-changed
+cast-changed c = search needs
+
+add-changed : tie.Need-add-changed
+add-changed c = search needs
+
 code-requires : tie.Need-code-requires
 code-requires c κs = search needs
 
@@ -21,4 +27,4 @@ unfolding after
 returns-2 c = search (pick-yes, pick-no, code-yes, needs) depth 12
 
 pub after-spec : {M : Type 1} → statement M
-after-spec = tie.close (tie.spec add-next code-requires returns returns-2)
+after-spec = tie.close (tie.spec add-next cast-changed add-changed code-requires returns returns-2)

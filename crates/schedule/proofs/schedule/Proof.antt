@@ -49,12 +49,14 @@ use denote.Triple.{Table.cited}
 use denote.Triple.Walked.{says, Stays, stay-none, stay-none-slice, stay-slice, walkOf, goes-none}
 use denote.Triple.Walked.{goes-none-slice, goes-slice, ends-at, walked, walk-meets}
 use Rattle.rules.specs.{Table.State, Table.state, Table.outcome, Check.check, Steps.step}
-use Rattle.rules.specs.{Steps.shading, Schedules.Followed, Schedules.schedule}
+use Rattle.rules.specs.{Steps.shading, Schedules.Followed, Schedules.schedule, Changes.changes}
+use Rattle.rules.specs.Changes.{changesAll}
 use Rattle.rules.specs.declared.{Record.Record, Made.Made, Step.Step, Ran.Ran}
 use Rattle.rules.proofs.Record as Rc
 use Rattle.rules.proofs.Step as St
 use Rattle.rules.proofs.Ran as Rn
-use Rattle.schedule.specs.{Stands.begun, Stands.after, declared.Going.Going}
+use Rattle.rules.proofs.Sums.{most-all}
+use Rattle.schedule.specs.{Stands.begun, Stands.after, Stands.Goes, declared.Going.Going}
 use Rattle.schedule.proofs.Going as Go
 use Rattle.schedule.proofs.Loop as loop
 use Rattle.schedule.proofs.begin as beg
@@ -162,12 +164,12 @@ abbrev ty : ℕ → Ty
 ty k = tyOf (getD (code.function .locals) k (local tyUnit valueLocal))
 
 -- where the loop's test is reached: the stand and the three lists, with what holds of them
-record Turn (xs : List Step) (last : Followed) (n₁ n₂ n₃ : ℕ) : Type 0 where
+record Turn (xs : List Step) (last : Followed) (sum n₁ n₂ n₃ : ℕ) : Type 0 where
   pub g : Going
   pub l : List ℕ
   pub r : List ℕ
   pub c : List ℕ
-  pub inv : loop.Inv xs last g (state l r c (g .rec))
+  pub inv : loop.Inv xs last sum g (state l r c (g .rec))
   pub e₁ : length l ≡ n₁
   pub e₂ : length r ≡ n₂
   pub e₃ : length c ≡ n₃
@@ -192,12 +194,15 @@ module _ {M : Type 1} (𝓤 : URA M) (H : Heap 𝓤) (A : Atoms 𝓤) (W : Given
   Post = walkOf 𝓤 H A f.ended stayed (f.clauses 𝓤 H A at-mem run) .post
       (((κ₀, (κ₁, (κ₂, (κ₃, tt)))), (q₀, (q₁, (q₂, (q₃, tt)))), tt, a, vals), tt)
 
-  -- what the definition says of the whole run
+  -- what the definitions say of the whole run
   abbrev last : Followed
   last = schedule (x₀ .now) (state (x₁ .now) (x₂ .now) (x₃ .now) h)
 
+  abbrev sum : ℕ
+  sum = changesAll (x₀ .now) (state (x₁ .now) (x₂ .now) (x₃ .now) h)
+
   abbrev Here : Type 0
-  Here = Turn (x₀ .now) last (length (x₁ .now)) (length (x₂ .now)) (length (x₃ .now))
+  Here = Turn (x₀ .now) last sum (length (x₁ .now)) (length (x₂ .now)) (length (x₃ .now))
 
   abbrev table : Here → State
   table t = state (t .l) (t .r) (t .c) (t .g .rec)
@@ -213,7 +218,14 @@ module _ {M : Type 1} (𝓤 : URA M) (H : Heap 𝓤) (A : Atoms 𝓤) (W : Given
   On t b = ltb (t .g .at) (t .g .end) ≡ b
 
   inside : (t : Here) → On t true → t .g .at < length (x₀ .now)
-  inside t on = loop.inside (x₀ .now) last (t .g) (table t) (t .inv) (ltb-true _ _ on)
+  inside t on = loop.inside (x₀ .now) last sum (t .g) (table t) (t .inv) (ltb-true _ _ on)
+
+  -- the sum is at most twice the number of steps, and so many bytes there are not
+  goes : (t : Here) → On t true → Goes (t .g)
+  goes t on =
+      let few = loop.counted (x₀ .now) last sum (t .g) (table t) (t .inv) in
+      let most = most-all (x₀ .now) (state (x₁ .now) (x₂ .now) (x₃ .now) h) in
+      record { before = ltb-true _ _ on; fits = omega (arith, few, most, room₀ .1) }
 
   span : (t : Here) → On t true → t .g .at * size < 2 ^ 64
   span t on = omega (arith, inside t on, room₀ .1)
@@ -224,13 +236,14 @@ module _ {M : Type 1} (𝓤 : URA M) (H : Heap 𝓤) (A : Atoms 𝓤) (W : Given
 
   -- ---- the result
   abbrev ran : Going → Ran
-  ran g = record { done = g .at; code = g .code; rec = g .rec }
+  ran g = record { done = g .at; code = g .code; changed = g .changed; rec = g .rec }
 
   ran-is : (g : Going) → Is Go.the-row g (LL.vals Go.the-type Go.Laws.the-laws g)
       → Is Rn.the-row (ran g) (LL.vals Rn.the-type Rn.Laws.the-laws (ran g))
   ran-is g is = let fs =
       LL.owed Go.the-type Go.Laws.the-laws g _ is in
-      LL.owes Rn.the-type Rn.Laws.the-laws (ran g) (fs .0, (fs .1 .1 .0, (fs .1 .1 .1 .0, tt)))
+      LL.owes Rn.the-type Rn.Laws.the-laws (ran g)
+      (fs .0, (fs .1 .1 .0, (fs .1 .1 .1 .0, (fs .1 .1 .1 .1 .0, tt))))
 
   -- ---- `begin`
   abbrev args-begin : ℕ × (ℕ × (ℕ × (Record × (ℕ × Unit {0}))))
@@ -310,14 +323,14 @@ module _ {M : Type 1} (𝓤 : URA M) (H : Heap 𝓤) (A : Atoms 𝓤) (W : Given
   abbrev Says : Here → Going → Lists → Type 0
   Says t g′ zs = (d : Made) ×
       ((outcome d (zs .0) (zs .1 .0) (zs .1 .1 .0) ≡ step (elem t) (table t)) ×
-      (g′ ≡ after (t .g) (d .answer) (d .rec)))
+      ((d .changed ≡ changes (elem t) (table t)) × (g′ ≡ after (t .g) d)))
 
   kept : (t : Here) → On t true → (g′ : Going) (zs : Lists) → Says t g′ zs
-      → loop.Inv (x₀ .now) last g′ (state (zs .0) (zs .1 .0) (zs .1 .1 .0) (g′ .rec)) ×
+      → loop.Inv (x₀ .now) last sum g′ (state (zs .0) (zs .1 .0) (zs .1 .1 .0) (g′ .rec)) ×
       (g′ .end - g′ .at < t .g .end - t .g .at)
   kept t on g′ zs said =
-      loop.turns (x₀ .now) last (t .g) (table t) shading (said .0) (zs .0) (zs .1 .0) (zs .1 .1 .0)
-      g′ (t .inv) (ltb-true _ _ on) (said .1 .0) (said .1 .1)
+      loop.turns (x₀ .now) last sum (t .g) (table t) shading (said .0) (zs .0) (zs .1 .0)
+      (zs .1 .1 .0) g′ (t .inv) (ltb-true _ _ on) (said .1 .0) (said .1 .1 .0) (said .1 .1 .1)
 
   abbrev turned : (t : Here) → On t true → (g′ : Going) (zs : Lists) → Says t g′ zs
       → Is Go.the-row g′ (LL.vals Go.the-type Go.Laws.the-laws g′) → length (zs .0) ≡ length (t .l)
@@ -466,7 +479,7 @@ module _ {M : Type 1} (𝓤 : URA M) (H : Heap 𝓤) (A : Atoms 𝓤) (W : Given
         (flft (ν₃ ∷ []) fullShare) ⊛ ‵ ftrue) ∷ ‵
         (owns (MutSlice (named 0) (ν₁ ∷ []) u16 ∷ MutSlice (named 1) (ν₂ ∷ []) u16 ∷ MutSlice
         (named 2) (ν₃ ∷ []) u8 ∷ Go.the-row ∷ St.the-row ∷ []) (args-adv t δ₁ δ₂ δ₃)
-        (vals-adv t)) ∷ []) ∵ says ! (ltb-true _ _ on) $ frame ! $ done !) $
+        (vals-adv t)) ∷ []) ∵ says ! (goes t on) $ frame ! $ done !) $
         calls-at-last ! (fmOf 𝓤 H (W .laws) 𝓣) (Advance 𝓤 H A at-mem run) known-adv
         (to-adv t ν₁ ν₂ ν₃ δ₁ δ₂ δ₃) (and-then ! (load ! (from ! (stop !)) (look ! 20 refl))
         (and-then ! (load ! (from ! (stop !)) (look ! 16 refl))
@@ -539,7 +552,9 @@ module _ {M : Type 1} (𝓤 : URA M) (H : Heap 𝓤) (A : Atoms 𝓤) (W : Given
         (and-then ! (load ! (from ! (fld ! refl (stop !)))
         (look-in ! 28 (sub ! 2 refl (whole !))))
         (and-then ! (load ! (from ! (fld ! refl (stop !)))
-        (look-in ! 28 (sub ! 3 refl (whole !)))) (no-more !))))) (from ! (stop !))
+        (look-in ! 28 (sub ! 3 refl (whole !))))
+        (and-then ! (load ! (from ! (fld ! refl (stop !)))
+        (look-in ! 28 (sub ! 4 refl (whole !)))) (no-more !)))))) (from ! (stop !))
         (init ! 40 refl (LL.lawful Rn.the-type Rn.Laws.the-laws 𝓤 H A W .typed (ran (t .g)) _
         (ran-is (t .g) (t .is)) .0)) $
         returns ! (look ! 40 refl) $ forget ! 18 refl $ forget ! 28 refl $ forget ! 30 refl $ forget
@@ -556,7 +571,8 @@ module _ {M : Type 1} (𝓤 : URA M) (H : Heap 𝓤) (A : Atoms 𝓤) (W : Given
         (((κ₀, (κ₁, (κ₂, (κ₃, tt)))), (q₀, (q₁, (q₂, (q₃, tt)))), tt, a, vals), tt)
         (LL.tuple-val Rn.the-type Rn.Laws.the-laws (Rn.the-type .to (ran (t .g)))) (ran (t .g))
         (tt, (t .l, (t .r, (t .c, (tt, tt))))) (tt, (t .e₁, (t .e₂, (t .e₃, (tt, tt)))))) $ says
-        ! (sym (loop.leaves (x₀ .now) last (t .g) (table t) (t .inv) (ltb-false _ _ on))) $
+        ! (let over = loop.leaves (x₀ .now) last sum (t .g) (table t) (t .inv) (ltb-false _ _ on) in
+        (sym (over .0), sym (over .1))) $
         nothing ! $ move ! (4 ∷ 0 ∷ []) $ join ! $ move ! (3 ∷ 0 ∷ []) $ join ! $ move !
         (2 ∷ 0 ∷ []) $ join ! $ move ! (1 ∷ 0 ∷ []) $ join ! $ frame ! $
         move ! (1 ∷ 2 ∷ []) $ fjoin ! $ move ! (1 ∷ 0 ∷ []) $ fjoin ! $ nothing ! $ owned !

@@ -32,15 +32,17 @@ returns c =
     let at-set-edge3 = c .before .before .before .before .before .before .before .before in
     let at-set-edge2 = at-set-edge3 .before .before .before .before .before .before .before in
     let at-set-edge = at-set-edge2 .before .before .before .before .before .before .before in
-    let at-entry = at-set-edge .before .before .before .before .before .before in
-    λ y. rw (
-      ← at-set-edge .set-edge .ensures (at-entry .args .colour .now) y,
-      ←
-          at-set-edge2 .set-edge2 .ensures (at-entry .args .colour .now) y,
-      ←
-          at-set-edge3 .set-edge3 .ensures (at-entry .args .colour .now) y,
-      ←
-          c .before .before .shade-node .ensures,
+    let at-entry = at-set-edge .before .before .before .before .before .before in (
+      λ y. rw (
+        ← at-set-edge .set-edge .ensures (at-entry .args .colour .now) y,
+        ←
+            at-set-edge2 .set-edge2 .ensures (at-entry .args .colour .now) y,
+        ←
+            at-set-edge3 .set-edge3 .ensures (at-entry .args .colour .now) y,
+        ←
+            c .before .before .shade-node .ensures .0,
+      ),
+      c .before .before .shade-node .ensures,
     )
 
 pub relink-spec : {M : Type 1} → statement M

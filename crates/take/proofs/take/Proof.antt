@@ -5,6 +5,7 @@ use native.Mathlib.Omega.{arith}
 use borrow.Author.Needs.{needs}
 use Rattle.base.proofs.Tests.{zeros}
 use Rattle.rules.specs.Editor.{take}
+use Rattle.rules.proofs.Changes.{told, told-none}
 use Rattle.rules.proofs.Checked.{good}
 use Rattle.rules.proofs.Laws.{unless-done, unless-refused, step-taking}
 use Rattle.rules.proofs.Walks.{slot-below, side-below}
@@ -21,9 +22,9 @@ refusal-requires c κs = search needs
 returns : tie.Need-returns
 unfolding take
 returns c =
-    rw (step-taking, c .refusal .ensures)
+    told-none _ _ _ _ _ (rw (step-taking, c .refusal .ensures)
     (unless-refused _ _ _ _ (c .before .before .edit-code .ensures ∙ no-target _ _ _ _ _ _)
-    (c .before .if1 .taken))
+    (c .before .if1 .taken))) (rw (c .refusal .ensures))
 
 take-from-requires : tie.Need-take-from-requires
 take-from-requires c κs =
@@ -48,8 +49,8 @@ returns-2 c =
     let at-take-from = c .before .before .before .before .before .before in
     let at-if1 = at-take-from .before .before .before .before in
     let code = at-if1 .before .edit-code .ensures ∙ no-target _ _ _ _ _ _ in
-    rw step-taking (unless-done _ _ _ _ _ code (at-if1 .if1 .left)
-    (at-take-from .take-from .ensures))
+    told _ _ _ _ _ _ (rw step-taking (unless-done _ _ _ _ _ code (at-if1 .if1 .left)
+    (at-take-from .take-from .ensures .0))) (at-take-from .take-from .ensures .1)
 
 pub take-spec : {M : Type 1} → statement M
 take-spec =

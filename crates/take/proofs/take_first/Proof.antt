@@ -5,6 +5,7 @@ use native.Mathlib.Omega.{arith}
 use borrow.Author.Needs.{needs}
 use Rattle.base.proofs.Tests.{tests, pick-yes, pick-no, eq-no}
 use Rattle.rules.specs.Editor.{takeFirst}
+use Rattle.rules.proofs.Changes.{unchanged}
 use Rattle.rules.proofs.Laws.{fine-free}
 use Rattle.take.proofs.take_first.Statement.{statement}
 use Rattle.take.proofs.take_first.Tie as tie
@@ -17,9 +18,11 @@ refusal-requires c κs = search needs
 
 returns : tie.Need-returns
 unfolding takeFirst
-returns c =
-    rw (c .refusal .ensures)
-    (pick-yes _ _ _ _ (sym (c .before .if1 .taken) ∙ c .before .before .bad-free .ensures) refl)
+returns c = (
+  rw (c .refusal .ensures)
+      (pick-yes _ _ _ _ (sym (c .before .if1 .taken) ∙ c .before .before .bad-free .ensures) refl),
+  rw (c .refusal .ensures) (unchanged _),
+)
 
 refusal-requires-2 : tie.Need-refusal-requires-2
 refusal-requires-2 c κs = search needs
@@ -27,10 +30,12 @@ refusal-requires-2 c κs = search needs
 returns-2 : tie.Need-returns-2
 unfolding takeFirst
 returns-2 c =
-    let at-if1 = c .before .before in
-    rw (c .refusal2 .ensures)
-    (pick-no _ _ _ _ (sym (at-if1 .if1 .left) ∙ at-if1 .before .bad-free .ensures)
-    (search (tests, needs) depth 12))
+    let at-if1 = c .before .before in (
+      rw (c .refusal2 .ensures)
+          (pick-no _ _ _ _ (sym (at-if1 .if1 .left) ∙ at-if1 .before .bad-free .ensures)
+          (search (tests, needs) depth 12)),
+      rw (c .refusal2 .ensures) (unchanged _),
+    )
 
 edge-requires : tie.Need-edge-requires
 edge-requires c κs = let h =
@@ -60,10 +65,12 @@ returns-3 c =
     let at-edge = at-take-next .before .before .before .before in
     let at-if2 = at-edge .before .before .before in
     let at-if1 = at-if2 .before in
-    let at-bad-free = at-if1 .before in
-    pick-no _ _ _ _ (sym (at-if1 .if1 .left) ∙ at-bad-free .bad-free .ensures)
-    (pick-no _ _ _ _ (eq-no _ _ (at-if2 .if2 .left))
-    (rw (← at-edge .edge .ensures) (at-take-next .take-next .ensures)))
+    let at-bad-free = at-if1 .before in (
+      pick-no _ _ _ _ (sym (at-if1 .if1 .left) ∙ at-bad-free .bad-free .ensures)
+          (pick-no _ _ _ _ (eq-no _ _ (at-if2 .if2 .left))
+          (rw (← at-edge .edge .ensures) (at-take-next .take-next .ensures .0))),
+      at-take-next .take-next .ensures .1,
+    )
 
 pub take-first-spec : {M : Type 1} → statement M
 take-first-spec =

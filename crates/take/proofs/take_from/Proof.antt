@@ -2,6 +2,7 @@
 -- definition. A source that is found lies in the table, which is what `take_first` asks.
 use native.Mathlib.Omega.{arith}
 use borrow.Author.Needs.{needs}
+use Rattle.rules.proofs.Changes.{unchanged}
 use Rattle.places.proofs.Arrivals.{departs, absent, found-below}
 use Rattle.take.proofs.take_from.Statement.{statement}
 use Rattle.take.proofs.take_from.Tie as tie
@@ -44,9 +45,11 @@ returns : tie.Need-returns
 returns c =
     let at-take-first = c .before .before .before .before .before .before in
     let at-edge = at-take-first .before .before .before .before in
-    let at-from = at-edge .before .before .before .before in
-    departs _ _ _ _ _ _ (at-from .before .before .depart .ensures) (at-from .from .given .1)
-    (rw (← at-edge .edge .ensures) (at-take-first .take-first .ensures))
+    let at-from = at-edge .before .before .before .before in (
+      departs _ _ _ _ _ _ (at-from .before .before .depart .ensures) (at-from .from .given .1)
+          (rw (← at-edge .edge .ensures) (at-take-first .take-first .ensures .0)),
+      at-take-first .take-first .ensures .1,
+    )
 
 same-length-4 : tie.Need-same-length-4
 same-length-4 c = search needs
@@ -57,8 +60,11 @@ same-length-5 c = search needs
 returns-2 : tie.Need-returns-2
 returns-2 c =
     let at-from = c .before .before in
-    rw (c .refusal .ensures)
-    (absent _ _ _ _ _ _ (at-from .before .before .depart .ensures) (at-from .from2 .given .1))
+    let at-depart = at-from .before .before in (
+      rw (c .refusal .ensures)
+          (absent _ _ _ _ _ _ (at-depart .depart .ensures) (at-from .from2 .given .1)),
+      rw (c .refusal .ensures) (unchanged _),
+    )
 
 pub take-from-spec : {M : Type 1} → statement M
 take-from-spec =
