@@ -55,13 +55,6 @@ static void make(int kind) {
     words[JENTURIK_NODES] = M, words[JENTURIK_SLOTS] = R, words[JENTURIK_LAST] = 1;
 }
 
-enum { LIBRARY, GCC, CLANG_C, VARIANTS };
-#ifdef CLANG
-static const int variants = VARIANTS;
-#else
-static const int variants = CLANG_C;
-#endif
-
 static struct answer run(int variant) {
     if (variant == LIBRARY) return library_in_use(&table, words);
 #ifdef CLANG

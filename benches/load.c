@@ -50,13 +50,6 @@ static void make(int kind) {
             lefts[i] = 2 + below(M - 2), rights[i] = 2 + below(M - 2);
 }
 
-enum { LIBRARY, GCC, CLANG_C, VARIANTS };
-#ifdef CLANG
-static const int variants = VARIANTS;
-#else
-static const int variants = CLANG_C;
-#endif
-
 static void run(int variant) {
     struct record x;
     if (variant == LIBRARY) {
