@@ -2,11 +2,10 @@
 -- `cycleOk` looks at.
 use Prim.Native.Nat.{ℕ, _+_, _≤_, _<_}
 use mathlib.Core.Path.{_≡_, refl, sym, _∙_}
-use mathlib.Core.Bool.{Bool, true, false, _||_, true≢false}
+use mathlib.Core.Bool.{Bool, true, false, true≢false}
 use mathlib.Core.List.{List, [], _∷_, map}
 use lib.ListN.{length, length-set}
-use lib.Dec.{eqb}
-use borrow.Author.Tests.{ltb-true, leb-true, leb-false, eqb-false}
+use borrow.Author.Tests.{ltb-true, leb-true, eqb-false}
 use native.Mathlib.Omega.{arith}
 use native.Mathlib.Nat.{mod-lt}
 use Rattle.base.specs.Choice.{every}
@@ -14,16 +13,16 @@ use Rattle.base.proofs.Tests.{each, split, pick-yes, pick-no, eq-no, lt-yes, le
 use Rattle.base.proofs.Tests.{every-skip, every-last, every-none}
 use Rattle.rules.specs.declared.Record.{Record}
 use Rattle.rules.specs.declared.Phase.{Phase}
-use Rattle.rules.specs.declared.Phase.the-variants.{Roots, Scan, Left, Right, Black, Append}
+use Rattle.rules.specs.declared.Phase.the-variants.{Append}
 use Rattle.rules.specs.Table.{State, Outcome, cleared}
 use Rattle.rules.specs.Records.{withLast, moved, marked, rescan, afterAppend}
 use Rattle.rules.specs.Check.{sizeOk, phaseOk, owedOk, lastOk, bound, cycleOk, toldOk, countsOk}
 use Rattle.rules.specs.Check.{recordOk, checkOf, check}
-use Rattle.rules.specs.Collector.{shadeStep, afterRoots, scanStep, edgeStep, blackStep, append}
-use Rattle.rules.specs.Collector.{appendWhite, appendStep, phaseStep}
-use Rattle.rules.specs.Facts.{Tells, InRange}
+use Rattle.rules.specs.Collector.{append, phaseStep}
+use Rattle.rules.specs.Facts.{Tells}
 use Rattle.rules.proofs.Changes.{shaded-length}
-use Rattle.rules.proofs.Checked.{passes, inside, tells, tells-ok}
+use Rattle.rules.proofs.Checked.{passes, tells, tells-ok}
+use Rattle.rules.proofs.PhaseSteps.{roots-ok, node-ok, scan-ok, phase-comes}
 use Rattle.rules.proofs.Rows.{edge-lengths, cleared-lengths, clear-colour}
 
 -- y passes wherever x does, but for its steps and its blackened
@@ -43,43 +42,6 @@ pub record Kept (s : State) (o : Outcome) : Type 0 where
   pub rec : Steady (count s) (s .rec) (o .state .rec)
   pub edges : map length (o .state .edges) ≡ map length (s .edges)
   pub colours : length (o .state .colour) ≡ length (s .colour)
-
-or-no : (a b : Bool) → a || b ≡ false → a ≡ false
-or-no true b e = e
-or-no false b e = refl
-
-scan-ok : (m r i k : ℕ) → i < m → 1 ≤ k → k ≤ m → true ≡ phaseOk m r (Scan i k)
-unfolding phaseOk
-scan-ok m r i k h l u =
-    every-skip _ _ _ (lt-yes _ _ h) (every-skip _ _ _ (le-yes _ _ l)
-    (every-skip _ _ _ (le-yes _ _ u) every-none))
-
-root-ok : (m r i : ℕ) → i ≤ r + 1 → true ≡ phaseOk m r (Roots i)
-unfolding phaseOk
-root-ok m r i h = le-yes _ _ h
-
-append-ok : (m r i : ℕ) → i < m → true ≡ phaseOk m r (Append i)
-unfolding phaseOk
-append-ok m r i h = lt-yes _ _ h
-
-left-ok : (m r i : ℕ) → i < m → true ≡ phaseOk m r (Left i)
-unfolding phaseOk
-left-ok m r i h = lt-yes _ _ h
-
-right-ok : (m r i : ℕ) → i < m → true ≡ phaseOk m r (Right i)
-unfolding phaseOk
-right-ok m r i h = lt-yes _ _ h
-
-black-ok : (m r i : ℕ) → i < m → true ≡ phaseOk m r (Black i)
-unfolding phaseOk
-black-ok m r i h = lt-yes _ _ h
-
-root-next : (m r i : ℕ) → 3 ≤ m → i ≤ r + 1 → true ≡ phaseOk m r (afterRoots m r i)
-unfolding afterRoots
-root-next m r i h k =
-    split (λ (p : Phase). true ≡ phaseOk m r p) _ _ _
-    (λ e. scan-ok m r 0 m (omega arith) (omega arith) (omega arith))
-    (λ e. let q = eqb-false i (r + 1) e in root-ok m r (i + 1) (omega arith))
 
 last-ok : (m r n : ℕ) → r + 1 < n → n < m → true ≡ lastOk m r n
 unfolding lastOk
@@ -147,7 +109,7 @@ module _ (s : State) (g : Passed (count s) (s .rec)) where
             refl;
         r = refl;
         owed = refl;
-        phase = append-ok _ _ _ (omega (arith, g));
+        phase = node-ok _ _ (Append 0) (omega arith) refl (omega (arith, g));
         last =
             g .self .last;
         told = omega (arith, g);
@@ -175,7 +137,7 @@ module _ (s : State) (g : Passed (count s) (s .rec)) where
         m = refl;
         r = refl;
         owed = refl;
-        phase = root-ok (x .m) (x .r) 0 (omega arith);
+        phase = roots-ok (x .m) (x .r) 0 (omega arith);
         last = k;
         told = omega (arith, g);
       })
@@ -184,89 +146,48 @@ module _ (s : State) (g : Passed (count s) (s .rec)) where
         m = refl;
         r = refl;
         owed = refl;
-        phase = append-ok _ _ _ (omega arith);
+        phase = node-ok _ _ (Append (i + 1)) (omega arith) refl (omega arith);
         last = k;
         told = omega (arith, g);
       })
 
-  abbrev K : Outcome → Type 0
-  K = Kept s
+  edges-kept : (i : ℕ) → map length (append s i .edges) ≡ map length (s .edges)
+  unfolding append
+  edges-kept i = edge-lengths (cleared s i) 0 (x .last) i ∙ cleared-lengths s i
 
-  shade-kept : (n : ℕ) (p : Phase) → true ≡ phaseOk (x .m) (x .r) p → K (shadeStep s n p)
-  unfolding shadeStep
-  shade-kept n p h =
-      split K _ _ _ (λ e. record { rec = g .self; edges = refl; colours = refl })
-      (λ e. record { rec = moved-steady p h; edges = refl; colours = shaded-length (s .colour) n })
-
-  edge-kept : (i e : ℕ) (p : Phase) → true ≡ phaseOk (x .m) (x .r) p → K (edgeStep s i e p)
-  unfolding edgeStep
-  edge-kept i e p h =
-      split K _ _ _ (λ b. record { rec = g .self; edges = refl; colours = refl })
-      (λ b. shade-kept e p h)
-
-  scan-kept : (i k : ℕ) → i < x .m → 1 ≤ k → k ≤ x .m → K (scanStep s i k)
-  unfolding scanStep
-  scan-kept i k h l u =
-      split K _ _ _ (λ e. record { rec = g .self; edges = refl; colours = refl }) (λ e.
-      split K _ _ _
-      (λ e. record { rec = moved-steady _ (left-ok _ _ _ h); edges = refl; colours = refl })
-      (λ e.
-      split K _ _ _ (λ e. record { rec = marked-steady; edges = refl; colours = refl }) (λ e.
-      let q = eqb-false k 1 e in
-      record {
-        rec =
-            moved-steady _ (scan-ok _ _ _ _ (mod-lt (i + 1) (omega arith)) (omega arith)
-            (omega arith));
-        edges = refl;
-        colours = refl;
-      })))
-
-  black-kept : (i : ℕ) → i < x .m → K (blackStep s i)
-  unfolding blackStep
-  black-kept i h = record {
-    rec =
-        rescan-steady i h;
-    edges = refl;
-    colours = length-set (s .colour) i 2;
-  }
-
-  white-kept : (i : ℕ) → i < x .m → K (appendWhite s i)
-  unfolding appendWhite append
-  white-kept i h =
-      split K _ _ _ (λ e. record { rec = g .self; edges = refl; colours = refl }) (λ e.
-      let q = leb-false i (x .r + 1) (or-no _ (eqb i (x .last)) e) in
-      record {
-        rec =
-            after-steady i i h (last-ok _ _ _ (omega arith) h);
-        edges = edge-lengths (cleared s i) 0
-            (x .last) i ∙ cleared-lengths s i;
-        colours = clear-colour s i;
-      })
-
-  append-kept : (i : ℕ) → i < x .m → K (appendStep s i)
-  unfolding appendStep
-  append-kept i h =
-      split K _ _ _
-      (λ e. record {
-        rec = after-steady i (x .last) h (g .self .last);
-        edges = refl;
-        colours =
-            length-set (s .colour) i 0;
-      }) (λ e.
-      split K _ _ _ (λ e. white-kept i h)
-      (λ e. record { rec = g .self; edges = refl; colours = refl }))
-
-  phase-kept : (p : Phase) → InRange (x .m) (x .r) p → K (phaseStep s p)
-  unfolding phaseStep
-  phase-kept (Roots i) h = shade-kept i _ (root-next _ _ i (g .low) h)
-  phase-kept (Scan i k) h = scan-kept i k (h .0) (h .1 .0) (h .1 .1)
-  phase-kept (Left i) h = edge-kept i _ _ (right-ok _ _ i h)
-  phase-kept (Right i) h = edge-kept i _ _ (black-ok _ _ i h)
-  phase-kept (Black i) h = black-kept i h
-  phase-kept (Append i) h = append-kept i h
+  colours-kept : (i : ℕ) → length (append s i .colour) ≡ length (s .colour)
+  unfolding append
+  colours-kept i = clear-colour s i
 
 pub kept : (s : State) → 0 ≡ check s → Kept s (phaseStep s (s .rec .phase))
-kept s e = phase-kept s (passed _ _ (s .rec) e) (s .rec .phase) (inside _ _ (s .rec) e)
+kept s e = phase-comes s (Kept s) e record {
+  stays = λ a. record { rec = g .self; edges = refl; colours = refl };
+  shades = λ n p h. record {
+    rec = moved-steady s g p h;
+    edges = refl;
+    colours = shaded-length (s .colour) n;
+  };
+  looks = λ i p h. record { rec = moved-steady s g p h; edges = refl; colours = refl };
+  marks = λ i. record { rec = marked-steady s g; edges = refl; colours = refl };
+  blackens = λ i h. record {
+    rec = rescan-steady s g i h;
+    edges = refl;
+    colours = length-set (s .colour) i 2;
+  };
+  whitens = λ i h. record {
+    rec = after-steady s g i (s .rec .last) h (g .self .last);
+    edges = refl;
+    colours = length-set (s .colour) i 0;
+  };
+  appends = λ i l h. record {
+    rec = after-steady s g i i h (last-ok _ _ _ l h);
+    edges = edges-kept s g i;
+    colours = colours-kept s g i;
+  };
+}
+  where
+    g : Passed (count s) (s .rec)
+    g = passed _ _ (s .rec) e
 
 either-way : (z a b : Bool) → z ≡ a → true ≡ b → z ≡ every (a ∷ b ∷ [])
 unfolding every

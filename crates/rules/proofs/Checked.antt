@@ -1,21 +1,20 @@
 -- Where codes 1 and 2 are not given, the record and the lengths are good: the tests as facts.
-use Prim.Native.Nat.{ℕ, _+_, _≤_, _<_}
+use Prim.Native.Nat.{ℕ, zero, suc, _+_, _≤_, _<_}
 use mathlib.Core.Bool.{Bool, true, false, _||_}
 use mathlib.Core.List.{List, [], _∷_}
 use lib.ListN.{length}
 use mathlib.Core.Path.{_≡_, refl, sym}
 use native.Mathlib.Omega.{arith}
 use lib.Dec.{ltb, leb, eqb}
-use borrow.Author.Tests.{ltb-true, leb-true}
+use borrow.Author.Tests.{ltb-true, leb-true, eqb-true}
 use Rattle.base.specs.Choice.{every, pick}
-use Rattle.base.proofs.Tests.{each, facts, tests}
+use Rattle.base.proofs.Tests.{each, facts, split, tests}
 use Rattle.rules.specs.Table.{mostNodes}
-use Rattle.rules.specs.Check.{sizeOk, phaseOk, owedOk, lastOk, bound, cycleOk, toldOk}
-use Rattle.rules.specs.Check.{countsOk, recordOk, checkOf}
-use Rattle.rules.specs.Facts.{Checked, Tells, InRange, Owable}
+use Rattle.rules.specs.Check.{sizeOk, positionOk, secondOk, phaseOk, owedOk, lastOk, bound}
+use Rattle.rules.specs.Check.{cycleOk, toldOk, countsOk, recordOk, checkOf}
+use Rattle.rules.specs.Facts.{Checked, Tells, Inside, Limited, InRange, Owable}
 use Rattle.rules.specs.declared.Record.{Record}
 use Rattle.rules.specs.declared.Phase.{Phase}
-use Rattle.rules.specs.declared.Phase.the-variants.{Roots, Scan, Left, Right, Black, Append}
 use Rattle.rules.specs.declared.Owed.{Owed}
 use Rattle.rules.specs.declared.Owed.the-variants.{Nothing, Node}
 use Rattle.rules.proofs.Sizes.{square}
@@ -41,14 +40,23 @@ last-of m r n e q = go (eqb n 1) refl e
     go true h k = omega facts
     go false h k = let f = each _ (sym k) in omega facts
 
+position-of : (m r tag i : ℕ) → positionOk m r tag i ≡ true → Inside m r tag i
+unfolding positionOk pick
+position-of m r zero i e = leb-true _ _ e
+position-of m r (suc tag) i e =
+    split (λ (b : Bool). b ≡ true → i < m) (eqb (suc tag) 0) _ _
+    (λ q k. absurd (omega (arith, eqb-true (suc tag) 0 q))) (λ q k. ltb-true _ _ k) e
+
+second-of : (m tag k : ℕ) → secondOk m tag k ≡ true → Limited m tag k
+unfolding secondOk pick
+second-of m zero k e = tt
+second-of m (suc zero) k e = let f = each _ (sym e) in omega facts
+second-of m (suc (suc tag)) k e = tt
+
 inside-of : (m r : ℕ) (p : Phase) → phaseOk m r p ≡ true → InRange m r p
 unfolding phaseOk
-inside-of m r (Roots i) e = leb-true _ _ e
-inside-of m r (Scan i k) e = let f = each _ (sym e) in omega facts
-inside-of m r (Left i) e = ltb-true _ _ e
-inside-of m r (Right i) e = ltb-true _ _ e
-inside-of m r (Black i) e = ltb-true _ _ e
-inside-of m r (Append i) e = ltb-true _ _ e
+inside-of m r p e =
+    let f = each _ (sym e) in (position-of _ _ _ _ (f .0), second-of _ _ _ (f .1 .0))
 
 -- what earlier cycles told, as facts and as a test
 pub tells : (x : Record) (b : ℕ) → true ≡ toldOk x b → Tells x b
@@ -74,6 +82,11 @@ good ll rl cl x e =
     let q = square (x .m) h in
     let l = last-of (x .m) (x .r) (x .last) (k .1 .1 .0) (omega facts) in
     omega facts
+
+-- a table has at least 3 nodes
+pub m-low : (ls : List ℕ) (cl : ℕ) (x : Record) → 0 ≡ checkOf ls cl x → 3 ≤ x .m
+unfolding sizeOk
+m-low ls cl x e = leb-true _ _ (each _ (passes ls cl x e .0) .0)
 
 pub inside : (ls : List ℕ) (cl : ℕ) (x : Record) → 0 ≡ checkOf ls cl x
     → InRange (x .m) (x .r) (x .phase)

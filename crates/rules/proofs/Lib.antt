@@ -1,5 +1,7 @@
 pub mod Sizes
 pub mod Checked
+pub mod Phases
+pub mod PhaseSteps
 pub mod Laws
 pub mod Walks
 pub mod Refused

@@ -7,16 +7,14 @@ use Rattle.rules.specs.Table.{State, Outcome, unless}
 use Rattle.rules.specs.Places.{arrive}
 use Rattle.rules.specs.Editor.{look, depart, linkTo, link, pay, shadeOwed, takeNext}
 use Rattle.rules.specs.Editor.{takeFirst, take}
-use Rattle.rules.specs.Collector.{shadeStep, scanStep, edgeStep, blackStep, appendWhite}
-use Rattle.rules.specs.Collector.{appendStep, phaseStep, collect}
+use Rattle.rules.specs.Collector.{collect}
 use Rattle.rules.specs.Steps.{step, codeOf}
 use Rattle.rules.specs.declared.Step.{Step}
 use Rattle.rules.specs.declared.Walk.{Walk}
 use Rattle.rules.specs.declared.Walk.the-variants.{At, Damaged}
 use Rattle.rules.specs.declared.Owed.{Owed}
 use Rattle.rules.specs.declared.Owed.the-variants.{Nothing, Node}
-use Rattle.rules.specs.declared.Phase.{Phase}
-use Rattle.rules.specs.declared.Phase.the-variants.{Roots, Scan, Left, Right, Black, Append}
+use Rattle.rules.proofs.PhaseSteps.{collect-comes}
 
 module _ (s : State) where
   abbrev Stays : Outcome → Type 0
@@ -47,14 +45,16 @@ module _ (s : State) where
   pays Nothing = refused
   pays (Node n) = either _ _ _ refused done
 
-  phases : (p : Phase) → Stays (phaseStep s p)
-  unfolding phaseStep shadeStep scanStep edgeStep blackStep appendStep appendWhite
-  phases (Roots i) = either _ _ _ refused done
-  phases (Scan i k) = either _ _ _ refused (either _ _ _ done (either _ _ _ done done))
-  phases (Left i) = either _ _ _ refused (either _ _ _ refused done)
-  phases (Right i) = either _ _ _ refused (either _ _ _ refused done)
-  phases (Black i) = done
-  phases (Append i) = either _ _ _ done (either _ _ _ (either _ _ _ refused done) refused)
+  collects : Stays (collect s)
+  collects = collect-comes s Stays record {
+    stays = λ a. refused;
+    shades = λ n p h. done;
+    looks = λ i p h. done;
+    marks = λ i. done;
+    blackens = λ i h. done;
+    whitens = λ i h. done;
+    appends = λ i l h. done;
+  }
 
   takes : (side f n : ℕ) → Stays (takeFirst s side f n)
   unfolding takeFirst takeNext
@@ -64,10 +64,10 @@ module _ (s : State) where
       (either _ _ _ done (either _ _ _ refused done)))))
 
   pub refused-stays : (a : Step) → Stays (step a s)
-  unfolding step take link linkTo depart shadeOwed collect look
+  unfolding step take link linkTo depart shadeOwed look
   refused-stays a =
       either _ _ _ (judged _ _ (arrives _ _ (λ n. either _ _ _ refused (takes _ _ _))))
       (either _ _ _ (judged _ _ (arrives _ _ (λ n. either _ _ _ refused (arrives _ _ (λ t. done)))))
       (either _ _ _ (judged _ _ (pays _))
-      (either _ _ _ (judged _ _ (phases _))
+      (either _ _ _ collects
       (either _ _ _ (judged _ _ (arrives _ _ (λ n. done))) refused))))

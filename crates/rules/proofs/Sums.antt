@@ -13,8 +13,7 @@ use Rattle.rules.specs.Check.{check}
 use Rattle.rules.specs.Places.{arrive}
 use Rattle.rules.specs.Editor.{look, depart, linkTo, link, pay, shadeOwed, relink, takeNext}
 use Rattle.rules.specs.Editor.{takeFirst, take}
-use Rattle.rules.specs.Collector.{shadeStep, scanStep, edgeStep, blackStep, append}
-use Rattle.rules.specs.Collector.{appendWhite, appendStep, phaseStep, collect}
+use Rattle.rules.specs.Collector.{append, collect}
 use Rattle.rules.specs.Steps.{step, collecting, codeOf}
 use Rattle.rules.specs.Schedules.{collects}
 use Rattle.rules.specs.Changes.{differing, changes, changesAll}
@@ -23,8 +22,7 @@ use Rattle.rules.specs.declared.Walk.{Walk}
 use Rattle.rules.specs.declared.Walk.the-variants.{At, Damaged}
 use Rattle.rules.specs.declared.Owed.{Owed}
 use Rattle.rules.specs.declared.Owed.the-variants.{Nothing, Node}
-use Rattle.rules.specs.declared.Phase.{Phase}
-use Rattle.rules.specs.declared.Phase.the-variants.{Roots, Scan, Left, Right, Black, Append}
+use Rattle.rules.proofs.PhaseSteps.{collect-comes}
 use Rattle.rules.proofs.Laws.{unless-refused, step-collecting}
 use Rattle.rules.proofs.Changes.{unchanged, most-more}
 
@@ -119,15 +117,17 @@ module _ (s : State) (n : ℕ) (some : 1 ≤ n) where
   pays Nothing = none
   pays (Node i) = either _ _ _ none (shaded i)
 
-  phases : (p : Phase) → Few (phaseStep s p)
-  unfolding phaseStep shadeStep scanStep edgeStep blackStep appendStep appendWhite append withEdge
-      cleared
-  phases (Roots i) = either _ _ _ none (shaded i)
-  phases (Scan i k) = either _ _ _ none (either _ _ _ none (either _ _ _ none none))
-  phases (Left i) = either _ _ _ none (either _ _ _ none (shaded _))
-  phases (Right i) = either _ _ _ none (either _ _ _ none (shaded _))
-  phases (Black i) = one i 2
-  phases (Append i) = either _ _ _ (one i 0) (either _ _ _ (either _ _ _ none none) none)
+  collected : Few (collect s)
+  unfolding append withEdge cleared
+  collected = collect-comes s Few record {
+    stays = λ a. none;
+    shades = λ i p h. shaded i;
+    looks = λ i p h. none;
+    marks = λ i. none;
+    blackens = λ i h. one i 2;
+    whitens = λ i h. one i 0;
+    appends = λ i l h. none;
+  }
 
   takes : 2 ≤ n → (side f i : ℕ) → Few (takeFirst s side f i)
   unfolding takeFirst takeNext relink withEdge
@@ -138,7 +138,7 @@ module _ (s : State) (n : ℕ) (some : 1 ≤ n) where
 
 -- [Changes 3] a step changes at most two colours
 pub most-two : (a : Step) (s : State) → changes a s ≤ 2
-unfolding changes step take link linkTo depart shadeOwed collect look withEdge
+unfolding changes step take link linkTo depart shadeOwed look withEdge
 most-two a s =
     let h : 1 ≤ 2 = omega arith in
     either s 2 h _ _ _
@@ -148,13 +148,13 @@ most-two a s =
     (judged s 2 h _ _ (arrives s 2 h _ _ (λ i. either s 2 h _ _ _ (none s 2 h)
     (arrives s 2 h _ _ (λ t. none s 2 h)))))
     (either s 2 h _ _ _ (judged s 2 h _ _ (pays s 2 h _))
-    (either s 2 h _ _ _ (judged s 2 h _ _ (phases s 2 h _))
+    (either s 2 h _ _ _ (collected s 2 h)
     (either s 2 h _ _ _ (judged s 2 h _ _ (arrives s 2 h _ _ (λ i. none s 2 h))) (none s 2 h)))))
 
 -- and the collector at most one
 pub most-one : (s : State) → changes collecting s ≤ 1
-unfolding changes collect
-most-one s = rw step-collecting (judged s 1 (omega arith) _ _ (phases s 1 (omega arith) _))
+unfolding changes
+most-one s = rw step-collecting (collected s 1 (omega arith))
 
 -- so many of the collector's steps change no more colours
 pub most-collects : (n : ℕ) (s : State) → changesAll (collects n) s ≤ n

@@ -6,9 +6,9 @@ use mathlib.Core.List.{List, [], _∷_, _++_, map}
 use lib.ListN.{length}
 use lib.Dec.{ltb, leb, eqb}
 use Rattle.rules.specs.Table.{State, FREE, mostNodes, mostSlots}
+use Rattle.rules.specs.Phases.{ROOTS, SCAN, tagOf, position, second}
 use Rattle.rules.specs.declared.Record.{Record}
 use Rattle.rules.specs.declared.Phase.{Phase}
-use Rattle.rules.specs.declared.Phase.the-variants.{Roots, Scan, Left, Right, Black, Append}
 use Rattle.rules.specs.declared.Owed.{Owed}
 use Rattle.rules.specs.declared.Owed.the-variants.{Nothing, Node}
 
@@ -19,14 +19,17 @@ sizeOk m r edges colours =
     every (leb 3 m ∷ leb m mostNodes ∷ leb 1 r ∷ leb r mostSlots ∷ leb (r + 2)
     m ∷ (map (λ n. eqb n m) edges ++ (eqb colours m ∷ [])))
 
--- [Record 3] the position of the phase
+-- [Record 3] a position of Roots is not above R + 1; every other one is below M
+unfoldable pub positionOk : ℕ → ℕ → ℕ → ℕ → Bool
+positionOk m r tag i = pick (eqb tag ROOTS) (leb i (r + 1)) (ltb i m)
+
+-- [Record 3] Scan's k is not 0 and not above M
+unfoldable pub secondOk : ℕ → ℕ → ℕ → Bool
+secondOk m tag k = pick (eqb tag SCAN) (every (leb 1 k ∷ leb k m ∷ [])) true
+
 unfoldable pub phaseOk : ℕ → ℕ → Phase → Bool
-phaseOk m r (Roots i) = leb i (r + 1)
-phaseOk m r (Scan i k) = every (ltb i m ∷ leb 1 k ∷ leb k m ∷ [])
-phaseOk m r (Left i) = ltb i m
-phaseOk m r (Right i) = ltb i m
-phaseOk m r (Black i) = ltb i m
-phaseOk m r (Append i) = ltb i m
+phaseOk m r p =
+    every (positionOk m r (tagOf p) (position p) ∷ secondOk m (tagOf p) (second p) ∷ [])
 
 -- [Codes 2] the node owed: any but FREE
 unfoldable pub owedOk : ℕ → Owed → Bool

@@ -1,11 +1,11 @@
 -- What codes 1 and 2 being 0 tells, as plain facts: what the inner functions rely on. No promise
 -- rests on this file.
-use Prim.Native.Nat.{ℕ, _+_, _≤_, _<_}
+use Prim.Native.Nat.{ℕ, zero, suc, _+_, _≤_, _<_}
 use mathlib.Core.Path.{_≡_}
 use Rattle.rules.specs.Table.{mostNodes, mostSlots}
+use Rattle.rules.specs.Phases.{tagOf, position, second}
 use Rattle.rules.specs.declared.Record.{Record}
 use Rattle.rules.specs.declared.Phase.{Phase}
-use Rattle.rules.specs.declared.Phase.the-variants.{Roots, Scan, Left, Right, Black, Append}
 use Rattle.rules.specs.declared.Owed.{Owed}
 use Rattle.rules.specs.declared.Owed.the-variants.{Nothing, Node}
 
@@ -13,14 +13,20 @@ use Rattle.rules.specs.declared.Owed.the-variants.{Nothing, Node}
 abbrev pub manySteps : ℕ
 manySteps = 20000000
 
--- a position inside its phase
+-- a position inside its phase, by the phase's number: 0 is Roots
+abbrev pub Inside : ℕ → ℕ → ℕ → ℕ → Type 0
+Inside m r zero i = i ≤ r + 1
+Inside m r (suc tag) i = i < m
+
+-- and a second number: 1 is Scan
+abbrev pub Limited : ℕ → ℕ → ℕ → Type 0
+Limited m zero k = Unit {0}
+Limited m (suc zero) k = (1 ≤ k) × (k ≤ m)
+Limited m (suc (suc tag)) k = Unit {0}
+
+-- a phase whose numbers are in their ranges
 abbrev pub InRange : ℕ → ℕ → Phase → Type 0
-InRange m r (Roots i) = i ≤ r + 1
-InRange m r (Scan i k) = (i < m) × ((1 ≤ k) × (k ≤ m))
-InRange m r (Left i) = i < m
-InRange m r (Right i) = i < m
-InRange m r (Black i) = i < m
-InRange m r (Append i) = i < m
+InRange m r p = Inside m r (tagOf p) (position p) × Limited m (tagOf p) (second p)
 
 -- nothing, or a node of the table
 abbrev pub Owable : ℕ → Owed → Type 0

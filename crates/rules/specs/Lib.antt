@@ -1,4 +1,5 @@
 pub mod Table
+pub mod Phases
 pub mod Records
 pub mod Check
 pub mod Fresh

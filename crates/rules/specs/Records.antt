@@ -5,18 +5,9 @@ use Prim.Native.Nat.{ℕ, _+_, _%_}
 use lib.Dec.{ltb, eqb}
 use Rattle.rules.specs.declared.Record.{Record}
 use Rattle.rules.specs.declared.Phase.{Phase}
-use Rattle.rules.specs.declared.Phase.the-variants.{Roots, Scan, Left, Right, Black, Append}
+use Rattle.rules.specs.declared.Phase.the-variants.{Roots, Scan, Append}
 use Rattle.rules.specs.declared.Owed.{Owed}
 use Rattle.rules.specs.declared.Owed.the-variants.{Nothing, Node}
-
--- [Record 2] the position of a phase: its i
-abbrev pub position : Phase → ℕ
-position (Roots i) = i
-position (Scan i k) = i
-position (Left i) = i
-position (Right i) = i
-position (Black i) = i
-position (Append i) = i
 
 -- [Fresh 5] the record that Fresh makes
 abbrev pub freshRecord : ℕ → ℕ → ℕ → Record

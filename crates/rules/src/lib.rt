@@ -6,11 +6,12 @@ ghost use mathlib.Core.List.{[], _∷_};
 ghost use Prim.Native.Nat.{_+_, _*_, _<_, _≤_};
 ghost use Rattle.rules.specs.Table.{mostNodes, mostSlots, refusal, refused};
 ghost use Rattle.rules.specs.Facts.{manySteps};
-ghost use Rattle.rules.specs.Records.{position, freshRecord, withPhase, withOwed, withLast};
+ghost use Rattle.rules.specs.Phases.{tagOf, position, second, hasSecond, phaseOf};
+ghost use Rattle.rules.specs.Records.{freshRecord, withPhase, withOwed, withLast};
 ghost use Rattle.rules.specs.Records.{owing, paid, moved, marked, rescan, oneMore, closed};
 ghost use Rattle.rules.specs.Records.{afterAppend};
-ghost use Rattle.rules.specs.Check.{sizeOk, phaseOk, owedOk, lastOk, bound, cycleOk, toldOk};
-ghost use Rattle.rules.specs.Check.{countsOk, recordOk, checkOf};
+ghost use Rattle.rules.specs.Check.{sizeOk, positionOk, secondOk, phaseOk, owedOk, lastOk};
+ghost use Rattle.rules.specs.Check.{bound, cycleOk, toldOk, countsOk, recordOk, checkOf};
 ghost use Rattle.rules.specs.Steps.{codeOf, nodeOf};
 
 // [Table 1] The most nodes that a table has, and the most slots.
@@ -23,6 +24,21 @@ pub const MOST_TURNS: u32 = 12;
 
 // [Record 7] The count of cycles goes no further.
 const MOST_CYCLES: u32 = 4294967295;
+
+// [C 2] The number of each phase, and the largest of them.
+const ROOTS: u32 = 0;
+
+const SCAN: u32 = 1;
+
+const LEFT: u32 = 2;
+
+const RIGHT: u32 = 3;
+
+const BLACK: u32 = 4;
+
+const APPEND: u32 = 5;
+
+pub const MOST_TAG: u32 = 5;
 
 // Where the collector is: six cases, each with its own position.
 pub enum Phase {
@@ -148,26 +164,107 @@ pub fn size_ok(m: usize, r: usize, lefts: usize, rights: usize, colours: usize) 
     true
 }
 
+// Which phase it is.
+pub fn tag(phase: Phase) -> u32
+    ensures { λ n. ⌜ n ≡ tagOf phase ⌝ }
+{
+    match phase {
+        Phase::Roots(_) => ROOTS,
+        Phase::Scan(_, _) => SCAN,
+        Phase::Left(_) => LEFT,
+        Phase::Right(_) => RIGHT,
+        Phase::Black(_) => BLACK,
+        Phase::Append(_) => APPEND,
+    }
+}
+
+// The position that a phase carries: its i.
+pub fn position(phase: Phase) -> u16
+    ensures { λ i. ⌜ i ≡ position phase ⌝ }
+{
+    match phase {
+        Phase::Roots(i) => i,
+        Phase::Scan(i, _) => i,
+        Phase::Left(i) => i,
+        Phase::Right(i) => i,
+        Phase::Black(i) => i,
+        Phase::Append(i) => i,
+    }
+}
+
+// Its second number, 0 where it has none.
+pub fn second(phase: Phase) -> u16
+    ensures { λ k. ⌜ k ≡ second phase ⌝ }
+{
+    match phase {
+        Phase::Roots(_) => 0,
+        Phase::Scan(_, k) => k,
+        Phase::Left(_) => 0,
+        Phase::Right(_) => 0,
+        Phase::Black(_) => 0,
+        Phase::Append(_) => 0,
+    }
+}
+
+// Whether a phase has a second number.
+pub fn has_second(tag: u32) -> bool
+    ensures { λ has. ⌜ has ≡ hasSecond tag ⌝ }
+{
+    tag == SCAN
+}
+
+// The phase of three numbers.
+pub fn phase_of(tag: u32, i: u16, k: u16) -> Phase
+    ensures { λ p. ⌜ p ≡ phaseOf tag i k ⌝ }
+{
+    if tag == ROOTS {
+        return Phase::Roots(i);
+    }
+    if tag == SCAN {
+        return Phase::Scan(i, k);
+    }
+    if tag == LEFT {
+        return Phase::Left(i);
+    }
+    if tag == RIGHT {
+        return Phase::Right(i);
+    }
+    if tag == BLACK {
+        return Phase::Black(i);
+    }
+    Phase::Append(i)
+}
+
+fn position_ok(m: u16, r: u16, tag: u32, i: u16) -> bool
+    requires { ⌜ r ≤ mostSlots ⌝ }
+    ensures { λ ok. ⌜ ok ≡ positionOk m r tag i ⌝ }
+{
+    if tag == ROOTS {
+        return i <= r + 1;
+    }
+    i < m
+}
+
+fn second_ok(m: u16, tag: u32, k: u16) -> bool
+    ensures { λ ok. ⌜ ok ≡ secondOk m tag k ⌝ }
+{
+    if tag != SCAN {
+        return true;
+    }
+    if k < 1 {
+        return false;
+    }
+    k <= m
+}
+
 fn phase_ok(m: u16, r: u16, p: Phase) -> bool
     requires { ⌜ r ≤ mostSlots ⌝ }
     ensures { λ ok. ⌜ ok ≡ phaseOk m r p ⌝ }
 {
-    match p {
-        Phase::Roots(i) => i <= r + 1,
-        Phase::Scan(i, k) => {
-            if m <= i {
-                return false;
-            }
-            if k < 1 {
-                return false;
-            }
-            k <= m
-        }
-        Phase::Left(i) => i < m,
-        Phase::Right(i) => i < m,
-        Phase::Black(i) => i < m,
-        Phase::Append(i) => i < m,
+    if !position_ok(m, r, tag(p), position(p)) {
+        return false;
     }
+    second_ok(m, tag(p), second(p))
 }
 
 fn owed_ok(m: u16, owed: Owed) -> bool
@@ -266,20 +363,6 @@ pub fn check(lefts: usize, rights: usize, colours: usize, x: Record) -> u8
         return 2;
     }
     0
-}
-
-// The position that a phase carries: its i.
-pub fn position(phase: Phase) -> u16
-    ensures { λ i. ⌜ i ≡ position phase ⌝ }
-{
-    match phase {
-        Phase::Roots(i) => i,
-        Phase::Scan(i, _) => i,
-        Phase::Left(i) => i,
-        Phase::Right(i) => i,
-        Phase::Black(i) => i,
-        Phase::Append(i) => i,
-    }
 }
 
 fn one_more(n: u32) -> u32

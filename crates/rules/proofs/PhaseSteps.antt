@@ -1,0 +1,128 @@
+-- What the step of a phase comes to, whatever the phase: one of the seven below. What is shown of
+-- these holds of every collector step, so only this file goes through the phases.
+use Prim.Native.Nat.{ℕ, _+_, _-_, _≤_, _<_}
+use mathlib.Core.Path.{_≡_, refl, sym}
+use mathlib.Core.Bool.{Bool, true, false, _||_}
+use native.Mathlib.Omega.{arith}
+use native.Mathlib.Nat.{mod-lt}
+use lib.Dec.{eqb}
+use borrow.Author.Tests.{leb-false, eqb-true, eqb-false}
+use Rattle.base.specs.Choice.{pick}
+use Rattle.base.proofs.Tests.{split, le-yes, lt-yes, eq-no, pick-no, every-skip, every-last}
+use Rattle.base.proofs.Tests.{every-none}
+use Rattle.rules.specs.Table.{State, Outcome, did, unless, white, black, edge, withColour}
+use Rattle.rules.specs.Table.{shade, left, right}
+use Rattle.rules.specs.Phases.{ROOTS, tagOf, position, second, hasSecond}
+use Rattle.rules.specs.Records.{withLast, moved, marked, next, rescan, afterAppend}
+use Rattle.rules.specs.Check.{positionOk, secondOk, phaseOk, check}
+use Rattle.rules.specs.Facts.{InRange}
+use Rattle.rules.specs.Collector.{shadeStep, afterRoots, scanStep, edgeStep, blackStep}
+use Rattle.rules.specs.Collector.{append, appendWhite, appendStep, phaseStep, collect}
+use Rattle.rules.specs.declared.Answer.{Answer}
+use Rattle.rules.specs.declared.Answer.the-variants.{Shaded, Looked, Blackened, Whitened}
+use Rattle.rules.specs.declared.Answer.the-variants.{Appended}
+use Rattle.rules.specs.declared.Phase.{Phase}
+use Rattle.rules.specs.declared.Phase.the-variants.{Roots, Scan, Left, Right, Black, Append}
+use Rattle.rules.proofs.Checked.{m-low, inside}
+
+-- what passes the test of a phase: Roots; any other, by its position and its second number; and one
+-- that has none, by its position
+pub roots-ok : (m r i : ℕ) → i ≤ r + 1 → true ≡ phaseOk m r (Roots i)
+unfolding phaseOk positionOk secondOk pick
+roots-ok m r i h = every-skip _ _ _ (le-yes _ _ h) (every-last _ _ refl)
+
+both-ok : (m r : ℕ) (p : Phase) → ROOTS < tagOf p → position p < m
+    → true ≡ secondOk m (tagOf p) (second p) → true ≡ phaseOk m r p
+unfolding phaseOk positionOk
+both-ok m r p t h k =
+    every-skip _ _ _ (pick-no _ _ _ _ (eq-no (tagOf p) ROOTS (λ z. omega arith)) (lt-yes _ _ h))
+    (every-last _ _ k)
+
+pub node-ok : (m r : ℕ) (p : Phase) → ROOTS < tagOf p → hasSecond (tagOf p) ≡ false
+    → position p < m → true ≡ phaseOk m r p
+unfolding secondOk
+node-ok m r p t e h = both-ok m r p t h (pick-no _ _ _ _ (sym e) refl)
+
+pub scan-ok : (m r i k : ℕ) → i < m → 1 ≤ k → k ≤ m → true ≡ phaseOk m r (Scan i k)
+unfolding secondOk pick
+scan-ok m r i k h l u =
+    both-ok m r (Scan i k) (omega arith) h
+    (every-skip _ _ _ (le-yes _ _ l) (every-last _ _ (le-yes _ _ u)))
+
+-- what a step comes to: the state stays, also where it is refused; or the answer that is given
+pub record Covers (s : State) (P : Outcome → Type 0) : Type 0 where
+  pub stays : (a : Answer) → P (record { answer = a; state = s })
+  pub shades : (n : ℕ) (p : Phase) → true ≡ phaseOk (s .rec .m) (s .rec .r) p
+      → P (did (Shaded n) (shade s n) (moved (s .rec) p))
+  pub looks : (i : ℕ) (p : Phase) → true ≡ phaseOk (s .rec .m) (s .rec .r) p
+      → P (did (Looked i) s (moved (s .rec) p))
+  pub marks : (i : ℕ) → P (did (Looked i) s (marked (s .rec)))
+  pub blackens : (i : ℕ) → i < s .rec .m
+      → P (did (Blackened i) (withColour s i black) (rescan (s .rec) i))
+  pub whitens : (i : ℕ) → i < s .rec .m
+      → P (did (Whitened i) (withColour s i white) (afterAppend (s .rec) i))
+  pub appends : (i : ℕ) → s .rec .r + 1 < i → i < s .rec .m
+      → P (did (Appended i) (append s i) (afterAppend (withLast (s .rec) i) i))
+
+or-no : (a b : Bool) → a || b ≡ false → a ≡ false
+or-no true b e = e
+or-no false b e = refl
+
+module _ {s : State} {P : Outcome → Type 0} (w : Covers s P) (low : 3 ≤ s .rec .m) where
+  shading : (n : ℕ) (p : Phase) → true ≡ phaseOk (s .rec .m) (s .rec .r) p → P (shadeStep s n p)
+  unfolding shadeStep
+  shading n p h = split P _ _ _ (λ e. w .stays _) (λ e. w .shades n p h)
+
+  edging : (i n : ℕ) (p : Phase) → true ≡ phaseOk (s .rec .m) (s .rec .r) p
+      → P (edgeStep s i n p)
+  unfolding edgeStep
+  edging i n p h = split P _ _ _ (λ e. w .stays _) (λ e. shading n p h)
+
+  after-roots : (i : ℕ) → i ≤ s .rec .r + 1
+      → true ≡ phaseOk (s .rec .m) (s .rec .r) (afterRoots (s .rec .m) (s .rec .r) i)
+  unfolding afterRoots
+  after-roots i h =
+      split (λ (p : Phase). true ≡ phaseOk (s .rec .m) (s .rec .r) p) _ _ _
+      (λ e. scan-ok _ _ _ _ (omega arith) (omega arith) (omega arith))
+      (λ e. let q = eqb-false i (s .rec .r + 1) e in roots-ok _ _ _ (omega arith))
+
+  scanning : (i k : ℕ) → i < s .rec .m → k ≤ s .rec .m → 1 ≤ k → P (scanStep s i k)
+  unfolding scanStep
+  scanning i k h u l =
+      split P _ _ _ (λ e. w .stays _) (λ e.
+      split P _ _ _ (λ e. w .looks i (Left i) (node-ok _ _ (Left i) (omega arith) refl h)) (λ e.
+      split P _ _ _ (λ e. w .marks i) (λ e.
+      let q = eqb-false k 1 e in
+      let on = next (s .rec) i in
+      w .looks i (Scan on (k - 1)) (scan-ok _ _ on (k - 1) (mod-lt (i + 1) (omega arith))
+      (omega arith) (omega arith)))))
+
+  appending : (i : ℕ) → i < s .rec .m → P (appendStep s i)
+  unfolding appendStep appendWhite
+  appending i h =
+      split P _ _ _ (λ e. w .whitens i h) (λ e.
+      split P _ _ _ (λ e.
+      split P _ _ _ (λ e. w .stays _) (λ e.
+      let q = leb-false i (s .rec .r + 1) (or-no _ (eqb i (s .rec .last)) e) in
+      w .appends i (omega arith) h))
+      (λ e. w .stays _))
+
+  comes : (p : Phase) → InRange (s .rec .m) (s .rec .r) p → P (phaseStep s p)
+  unfolding phaseStep blackStep
+  comes (Roots i) h = shading i _ (after-roots i (h .0))
+  comes (Scan i k) h = scanning i k (h .0) (h .1 .1) (h .1 .0)
+  comes (Left i) h = edging i _ _ (node-ok _ _ (Right i) (omega arith) refl (h .0))
+  comes (Right i) h = edging i _ _ (node-ok _ _ (Black i) (omega arith) refl (h .0))
+  comes (Black i) h = w .blackens i (h .0)
+  comes (Append i) h = appending i (h .0)
+
+-- the step of the record's phase, where the record passes; and the collector's step in any state
+pub phase-comes : (s : State) (P : Outcome → Type 0) → 0 ≡ check s → Covers s P
+    → P (phaseStep s (s .rec .phase))
+phase-comes s P e w =
+    comes w (m-low _ _ (s .rec) e) (s .rec .phase) (inside _ _ (s .rec) e)
+
+pub collect-comes : (s : State) (P : Outcome → Type 0) → Covers s P → P (collect s)
+unfolding collect unless
+collect-comes s P w =
+    split P _ _ _ (λ e. phase-comes s P (sym (eqb-true _ _ e)) w) (λ e. w .stays _)
