@@ -9,13 +9,12 @@ use lib.Dec.{leb, eqb}
 use borrow.Author.Tests.{leb-true, eqb-true, eqb-false}
 use Rattle.base.specs.Choice.{every}
 use Rattle.base.proofs.Tests.{each, every-here, every-skip, every-last, eq-yes, le-yes, le-no}
-use Rattle.base.proofs.Tests.{called, not-yes, not-no, tests}
+use Rattle.base.proofs.Tests.{called, not-yes, not-no, pick-no, tests}
 use Rattle.rules.specs.declared.Record.{Record}
-use Rattle.rules.specs.declared.Phase.{Phase}
-use Rattle.rules.specs.declared.Phase.the-variants.{Roots, Scan, Left, Right, Black, Append}
+use Rattle.rules.proofs.Phases.{no-second}
 use Rattle.rules.specs.declared.Owed.{Owed}
 use Rattle.rules.specs.declared.Owed.the-variants.{Nothing, Node}
-use Rattle.record_words.specs.Words.{word, tagOf, kOf, owesOf, owedOf, wordsOf, most, within}
+use Rattle.record_words.specs.Words.{word, owesOf, owedOf, wordsOf, most, within}
 use Rattle.record_words.specs.Words.{flagged, isRecord, Within, WORDS, NODES, SLOTS, PHASE, I}
 use Rattle.record_words.specs.Words.{K, OWES, OWED, LAST, STEPS, CYCLES, TOOK, BLACKENED}
 use Rattle.record_words.specs.Words.{LASTBLACKENED}
@@ -126,28 +125,16 @@ unfolding isRecord
 widths w e = facts-of w WORDS (sym (each _ e .1 .0))
 
 -- a phase's and a shade's words
-pub tag-most : (p : Phase) → tagOf p ≤ 5
-tag-most (Roots i) = omega arith
-tag-most (Scan i k) = omega arith
-tag-most (Left i) = omega arith
-tag-most (Right i) = omega arith
-tag-most (Black i) = omega arith
-tag-most (Append i) = omega arith
-
 pub owes-most : (o : Owed) → owesOf o ≤ 1
 owes-most Nothing = omega arith
 owes-most (Node n) = omega arith
 
-k-flagged : (p : Phase) → true ≡ flagged (tagOf p) (kOf p)
+flagged-ok : (told : Bool) (n : ℕ) → (told ≡ false → n ≡ 0) → true ≡ flagged told n
 unfolding flagged
-k-flagged (Roots i) = search tests
-k-flagged (Scan i k) = search tests
-k-flagged (Left i) = search tests
-k-flagged (Right i) = search tests
-k-flagged (Black i) = search tests
-k-flagged (Append i) = search tests
+flagged-ok true n h = search tests
+flagged-ok false n h = pick-no _ _ _ _ refl (eq-yes _ _ (h refl))
 
-owed-flagged : (o : Owed) → true ≡ flagged (owesOf o) (owedOf o)
+owed-flagged : (o : Owed) → true ≡ flagged (eqb (owesOf o) 1) (owedOf o)
 unfolding flagged
 owed-flagged Nothing = search tests
 owed-flagged (Node n) = search tests
@@ -160,4 +147,4 @@ words-are x w q h = (q, subst (λ (v : List ℕ). true ≡ isRecord v) (sym q) a
     all : true ≡ isRecord (wordsOf x)
     all =
         every-skip _ _ _ (eq-yes WORDS WORDS refl) (every-skip _ _ _ (tests-of _ WORDS h)
-        (every-skip _ _ _ (k-flagged (x .phase)) (every-last _ _ (owed-flagged (x .owed)))))
+        (every-skip _ _ _ (flagged-ok _ _ (no-second (x .phase))) (every-last _ _ (owed-flagged (x .owed)))))

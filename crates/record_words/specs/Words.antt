@@ -5,10 +5,9 @@ use mathlib.Core.Bool.{Bool, true}
 use mathlib.Core.List.{List, [], _∷_}
 use lib.Dec.{leb, eqb}
 use lib.ListN.{length, getD, replicate}
-use Rattle.rules.specs.Records.{position}
+use Rattle.rules.specs.Phases.{mostTag, tagOf, position, second, hasSecond, phaseOf}
 use Rattle.rules.specs.declared.Record.{Record}
 use Rattle.rules.specs.declared.Phase.{Phase}
-use Rattle.rules.specs.declared.Phase.the-variants.{Roots, Scan, Left, Right, Black, Append}
 use Rattle.rules.specs.declared.Owed.{Owed}
 use Rattle.rules.specs.declared.Owed.the-variants.{Nothing, Node}
 
@@ -62,23 +61,6 @@ LASTBLACKENED = 12
 abbrev pub USED : ℕ
 USED = 13
 
--- which phase it is, and its k: 0 but in Scan
-abbrev pub tagOf : Phase → ℕ
-tagOf (Roots i) = 0
-tagOf (Scan i k) = 1
-tagOf (Left i) = 2
-tagOf (Right i) = 3
-tagOf (Black i) = 4
-tagOf (Append i) = 5
-
-abbrev pub kOf : Phase → ℕ
-kOf (Roots i) = 0
-kOf (Scan i k) = k
-kOf (Left i) = 0
-kOf (Right i) = 0
-kOf (Black i) = 0
-kOf (Append i) = 0
-
 -- whether a shade is owed, and the node: 0 where none is
 abbrev pub owesOf : Owed → ℕ
 owesOf Nothing = 0
@@ -100,16 +82,8 @@ laidOut x tag i k owes n =
 
 abbrev pub wordsOf : Record → List ℕ
 wordsOf x =
-    laidOut x (tagOf (x .phase)) (position (x .phase)) (kOf (x .phase)) (owesOf (x .owed))
+    laidOut x (tagOf (x .phase)) (position (x .phase)) (second (x .phase)) (owesOf (x .owed))
     (owedOf (x .owed))
-
-unfoldable pub phaseOf : ℕ → ℕ → ℕ → Phase
-phaseOf tag i k =
-    pick (eqb tag 0) (Roots i)
-    (pick (eqb tag 1) (Scan i k)
-    (pick (eqb tag 2) (Left i)
-    (pick (eqb tag 3) (Right i)
-    (pick (eqb tag 4) (Black i) (Append i)))))
 
 unfoldable pub shadeOf : ℕ → ℕ → Owed
 shadeOf owes n = pick (eqb owes 0) Nothing (Node n)
@@ -145,7 +119,7 @@ large = 4294967295
 -- the most that each word may be, in their order
 abbrev pub most : List ℕ
 most =
-    small ∷ small ∷ 5 ∷ small ∷ small ∷ 1 ∷ small ∷ small ∷ large ∷ large ∷ large ∷ small ∷ small ∷
+    small ∷ small ∷ mostTag ∷ small ∷ small ∷ 1 ∷ small ∷ small ∷ large ∷ large ∷ large ∷ small ∷ small ∷
     unused
 
 -- the first n words are at most that
@@ -153,16 +127,16 @@ unfoldable pub within : List ℕ → ℕ → Bool
 within w zero = true
 within w (suc n) = every (within w n ∷ leb (word w n) (word most n) ∷ [])
 
--- n is 0 but where the flag is 1
-unfoldable pub flagged : ℕ → ℕ → Bool
-flagged flag n = pick (eqb flag 1) true (eqb n 0)
+-- n is 0 unless it is told
+unfoldable pub flagged : Bool → ℕ → Bool
+flagged told n = pick told true (eqb n 0)
 
--- [C 3] whether words are a record's: so many, each in its width, k 0 but in Scan, the node 0 but
--- where one is owed
+-- [C 3] whether words are a record's: so many, each in its width, k 0 but in a phase that has a
+-- second number, the node 0 but where one is owed
 unfoldable pub isRecord : List ℕ → Bool
 isRecord w =
-    every (eqb (length w) WORDS ∷ within w WORDS ∷ flagged (word w PHASE) (word w K) ∷ flagged
-    (word w OWES) (word w OWED) ∷ [])
+    every (eqb (length w) WORDS ∷ within w WORDS ∷ flagged
+    (hasSecond (word w PHASE)) (word w K) ∷ flagged (eqb (word w OWES) 1) (word w OWED) ∷ [])
 
 -- the same as facts: what the first n words are
 abbrev pub Within : List ℕ → ℕ → Type 0

@@ -7,8 +7,7 @@ ghost use mathlib.Core.Bool.{true};
 ghost use mathlib.Core.List.{[], _∷_};
 ghost use lib.Dec.{leb};
 ghost use Rattle.base.specs.Choice.{every};
-ghost use Rattle.record_words.specs.Words.{tagOf, kOf, owesOf, owedOf, laidOut, wordsOf};
-ghost use Rattle.record_words.specs.Words.{phaseOf};
+ghost use Rattle.record_words.specs.Words.{owesOf, owedOf, laidOut, wordsOf};
 ghost use Rattle.record_words.specs.Words.{shadeOf, pickedUp, recordOf, within, flagged};
 ghost use Rattle.record_words.specs.Words.{isRecord, Within, WORDS};
 
@@ -40,32 +39,6 @@ const TOOK: usize = 10;
 const BLACKENED: usize = 11;
 
 const LASTBLACKENED: usize = 12;
-
-fn tag(p: Phase) -> u32
-    ensures { λ n. ⌜ n ≡ tagOf p ⌝ }
-{
-    match p {
-        Phase::Roots(_) => 0,
-        Phase::Scan(_, _) => 1,
-        Phase::Left(_) => 2,
-        Phase::Right(_) => 3,
-        Phase::Black(_) => 4,
-        Phase::Append(_) => 5,
-    }
-}
-
-fn rest(p: Phase) -> u16
-    ensures { λ n. ⌜ n ≡ kOf p ⌝ }
-{
-    match p {
-        Phase::Roots(_) => 0,
-        Phase::Scan(_, k) => k,
-        Phase::Left(_) => 0,
-        Phase::Right(_) => 0,
-        Phase::Black(_) => 0,
-        Phase::Append(_) => 0,
-    }
-}
 
 fn owes(o: Owed) -> u32
     ensures { λ n. ⌜ n ≡ owesOf o ⌝ }
@@ -128,7 +101,8 @@ pub fn words_of(x: Record) -> [u32; WORDS]
 {
     let p = x.phase;
     let o = x.owed;
-    laid_out(x, tag(p), rules::position(p), rest(p), owes(o), owed(o))
+    let tag = rules::tag(p);
+    laid_out(x, tag, rules::position(p), rules::second(p), owes(o), owed(o))
 }
 
 // Whether four numbers are at most top.
@@ -153,7 +127,7 @@ fn at_most(top: u32, a: u32, b: u32, c: u32, d: u32) -> bool
 fn within(w: [u32; WORDS]) -> bool
     ensures { λ ok. ⌜ ok ≡ within w WORDS ⌝ }
 {
-    if 5 < w[PHASE] {
+    if rules::MOST_TAG < w[PHASE] {
         return false;
     }
     if 1 < w[OWES] {
@@ -180,10 +154,10 @@ fn within(w: [u32; WORDS]) -> bool
     true
 }
 
-fn flagged(flag: u32, n: u32) -> bool
-    ensures { λ ok. ⌜ ok ≡ flagged flag n ⌝ }
+fn flagged(told: bool, n: u32) -> bool
+    ensures { λ ok. ⌜ ok ≡ flagged told n ⌝ }
 {
-    if flag == 1 {
+    if told {
         return true;
     }
     n == 0
@@ -196,31 +170,10 @@ pub fn is_record(w: [u32; WORDS]) -> bool
     if !within(w) {
         return false;
     }
-    if !flagged(w[PHASE], w[K]) {
+    if !flagged(rules::has_second(w[PHASE]), w[K]) {
         return false;
     }
-    flagged(w[OWES], w[OWED])
-}
-
-fn phase_of(tag: u32, i: u16, k: u16) -> Phase
-    ensures { λ p. ⌜ p ≡ phaseOf tag i k ⌝ }
-{
-    if tag == 0 {
-        return Phase::Roots(i);
-    }
-    if tag == 1 {
-        return Phase::Scan(i, k);
-    }
-    if tag == 2 {
-        return Phase::Left(i);
-    }
-    if tag == 3 {
-        return Phase::Right(i);
-    }
-    if tag == 4 {
-        return Phase::Black(i);
-    }
-    Phase::Append(i)
+    flagged(w[OWES] == 1, w[OWED])
 }
 
 fn shade_of(owes: u32, n: u16) -> Owed
@@ -255,7 +208,7 @@ pub fn record_of(w: [u32; WORDS]) -> Record
     requires { ⌜ true ≡ isRecord w ⌝ }
     ensures { λ x. ⌜ x ≡ recordOf w ⌝ }
 {
-    let phase = phase_of(w[PHASE], w[I] as u16, w[K] as u16);
+    let phase = rules::phase_of(w[PHASE], w[I] as u16, w[K] as u16);
     let owed = shade_of(w[OWES], w[OWED] as u16);
     picked_up(w, phase, owed)
 }

@@ -10,6 +10,7 @@ use borrow.Author.Tests.{ltb-true, leb-true, eqb-true}
 use Rattle.base.specs.Choice.{every, pick}
 use Rattle.base.proofs.Tests.{each, facts, split, tests}
 use Rattle.rules.specs.Table.{mostNodes}
+use Rattle.rules.specs.Phases.{SCAN, hasSecond}
 use Rattle.rules.specs.Check.{sizeOk, positionOk, secondOk, phaseOk, owedOk, lastOk, bound}
 use Rattle.rules.specs.Check.{cycleOk, toldOk, countsOk, recordOk, checkOf}
 use Rattle.rules.specs.Facts.{Checked, Tells, Inside, Limited, InRange, Owable}
@@ -17,6 +18,7 @@ use Rattle.rules.specs.declared.Record.{Record}
 use Rattle.rules.specs.declared.Phase.{Phase}
 use Rattle.rules.specs.declared.Owed.{Owed}
 use Rattle.rules.specs.declared.Owed.the-variants.{Nothing, Node}
+use Rattle.rules.proofs.Phases.{no-second}
 use Rattle.rules.proofs.Sizes.{square}
 
 -- both tests are passed where the code is 0
@@ -47,16 +49,26 @@ position-of m r (suc tag) i e =
     split (λ (b : Bool). b ≡ true → i < m) (eqb (suc tag) 0) _ _
     (λ q k. absurd (omega (arith, eqb-true (suc tag) 0 q))) (λ q k. ltb-true _ _ k) e
 
-second-of : (m tag k : ℕ) → secondOk m tag k ≡ true → Limited m tag k
+second-of : (m tag k : ℕ) → secondOk m tag k ≡ true → Limited tag k
 unfolding secondOk pick
 second-of m zero k e = tt
 second-of m (suc zero) k e = let f = each _ (sym e) in omega facts
 second-of m (suc (suc tag)) k e = tt
 
+second-high : (m tag k : ℕ) → secondOk m tag k ≡ true → (hasSecond tag ≡ false → k ≡ 0) → k ≤ m
+unfolding secondOk
+second-high m tag k e z =
+    split (λ (b : Bool). b ≡ true → k ≤ m) (eqb tag SCAN) _ _
+    (λ q h. let f = each _ (sym h) in omega facts) (λ q h. omega (arith, z q)) e
+
 inside-of : (m r : ℕ) (p : Phase) → phaseOk m r p ≡ true → InRange m r p
 unfolding phaseOk
 inside-of m r p e =
-    let f = each _ (sym e) in (position-of _ _ _ _ (f .0), second-of _ _ _ (f .1 .0))
+    let f = each _ (sym e) in (
+      position-of _ _ _ _ (f .0),
+      second-high _ _ _ (f .1 .0) (no-second p),
+      second-of _ _ _ (f .1 .0),
+    )
 
 -- what earlier cycles told, as facts and as a test
 pub tells : (x : Record) (b : ℕ) → true ≡ toldOk x b → Tells x b

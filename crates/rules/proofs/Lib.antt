@@ -1,6 +1,6 @@
 pub mod Sizes
-pub mod Checked
 pub mod Phases
+pub mod Checked
 pub mod PhaseSteps
 pub mod Laws
 pub mod Walks

@@ -110,7 +110,7 @@ module _ {s : State} {P : Outcome → Type 0} (w : Covers s P) (low : 3 ≤ s .r
   comes : (p : Phase) → InRange (s .rec .m) (s .rec .r) p → P (phaseStep s p)
   unfolding phaseStep blackStep
   comes (Roots i) h = shading i _ (after-roots i (h .0))
-  comes (Scan i k) h = scanning i k (h .0) (h .1 .1) (h .1 .0)
+  comes (Scan i k) h = scanning i k (h .0) (h .1) (h .2)
   comes (Left i) h = edging i _ _ (node-ok _ _ (Right i) (omega arith) refl (h .0))
   comes (Right i) h = edging i _ _ (node-ok _ _ (Black i) (omega arith) refl (h .0))
   comes (Black i) h = w .blackens i (h .0)

@@ -18,15 +18,16 @@ abbrev pub Inside : ℕ → ℕ → ℕ → ℕ → Type 0
 Inside m r zero i = i ≤ r + 1
 Inside m r (suc tag) i = i < m
 
--- and a second number: 1 is Scan
-abbrev pub Limited : ℕ → ℕ → ℕ → Type 0
-Limited m zero k = Unit {0}
-Limited m (suc zero) k = (1 ≤ k) × (k ≤ m)
-Limited m (suc (suc tag)) k = Unit {0}
+-- what else a second number is: 1 is Scan
+abbrev pub Limited : ℕ → ℕ → Type 0
+Limited zero k = Unit {0}
+Limited (suc zero) k = 1 ≤ k
+Limited (suc (suc tag)) k = Unit {0}
 
 -- a phase whose numbers are in their ranges
 abbrev pub InRange : ℕ → ℕ → Phase → Type 0
-InRange m r p = Inside m r (tagOf p) (position p) × Limited m (tagOf p) (second p)
+InRange m r p =
+    Inside m r (tagOf p) (position p) × (second p ≤ m) × Limited (tagOf p) (second p)
 
 -- nothing, or a node of the table
 abbrev pub Owable : ℕ → Owed → Type 0

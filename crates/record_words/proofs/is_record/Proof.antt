@@ -13,31 +13,35 @@ returns : tie.Need-returns
 unfolding isRecord
 returns c = search (tests, needs) depth 12
 
+array-read-has-second : tie.Need-array-read-has-second
+array-read-has-second c = search needs
+
+has-second-requires : tie.Need-has-second-requires
+has-second-requires c κs = search needs
+
 array-read-flagged : tie.Need-array-read-flagged
 array-read-flagged c = search needs
-
-array-read-flagged-2 : tie.Need-array-read-flagged-2
-array-read-flagged-2 c = search needs
 
 flagged-requires : tie.Need-flagged-requires
 flagged-requires c κs = search needs
 
 returns-2 : tie.Need-returns-2
 unfolding isRecord
-returns-2 c = search (tests, needs) depth 12
+returns-2 c = rw (← c .before .before .has-second .ensures) (search (tests, needs) depth 12)
+
+array-read-flagged-2 : tie.Need-array-read-flagged-2
+array-read-flagged-2 c = search needs
 
 array-read-flagged-3 : tie.Need-array-read-flagged-3
 array-read-flagged-3 c = search needs
-
-array-read-flagged-4 : tie.Need-array-read-flagged-4
-array-read-flagged-4 c = search needs
 
 flagged-requires-2 : tie.Need-flagged-requires-2
 flagged-requires-2 c κs = search needs
 
 returns-3 : tie.Need-returns-3
 unfolding isRecord
-returns-3 c = search (tests, needs) depth 12
+returns-3 c =
+    rw (← c .before .before .before .has-second .ensures) (search (tests, needs) depth 12)
 
 pub is-record-spec : {M : Type 1} → statement M
 is-record-spec =
@@ -45,11 +49,12 @@ is-record-spec =
     (tie.spec
     within-requires
     returns
+    array-read-has-second
+    has-second-requires
     array-read-flagged
-    array-read-flagged-2
     flagged-requires
     returns-2
+    array-read-flagged-2
     array-read-flagged-3
-    array-read-flagged-4
     flagged-requires-2
     returns-3)

@@ -1,7 +1,8 @@
 -- What the types say of the record's numbers is what `is_record` judges of the words.
 use native.Mathlib.Omega.{arith}
 use borrow.Author.Needs.{needs}
-use Rattle.record_words.proofs.Widths.{words-are, tag-most, owes-most}
+use Rattle.rules.proofs.Phases.{tag-most}
+use Rattle.record_words.proofs.Widths.{words-are, owes-most}
 use Rattle.record_words.proofs.words_of.Statement.{statement}
 use Rattle.record_words.proofs.words_of.Tie as tie
 
@@ -11,8 +12,8 @@ tag-requires c κs = search needs
 position-requires : tie.Need-position-requires
 position-requires c κs = search needs
 
-rest-requires : tie.Need-rest-requires
-rest-requires c κs = search needs
+second-requires : tie.Need-second-requires
+second-requires c κs = search needs
 
 owes-requires : tie.Need-owes-requires
 owes-requires c κs = search needs
@@ -35,7 +36,7 @@ words-of-spec =
     (tie.spec
     tag-requires
     position-requires
-    rest-requires
+    second-requires
     owes-requires
     owed-requires
     laid-out-requires
