@@ -45,17 +45,7 @@ fn stride(left: &mut [u16], right: &mut [u16], colour: &mut [u8], x: Record, cap
         Phase::Roots(i) => in_order::roots(left, right, colour, x, i, cap),
         Phase::Scan(i, k) => scanning::scans(left, right, colour, x, i, k, cap),
         Phase::Append(i) => in_order::appends(left, right, colour, x, i, cap),
-        Phase::Left(_) => Ahead {
-            d: 0,
-            changed: 0,
-            rec: x,
-        },
-        Phase::Right(_) => Ahead {
-            d: 0,
-            changed: 0,
-            rec: x,
-        },
-        Phase::Black(_) => Ahead {
+        _ => Ahead {
             d: 0,
             changed: 0,
             rec: x,

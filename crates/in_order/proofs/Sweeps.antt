@@ -58,7 +58,8 @@ pub at-roots : (l k c : List ℕ) (x : Record) (i : ℕ) → Passes (state l k c
     → AtRoots (length l) (length k) (length c) x i
 at-roots l k c x i p h =
     let g = good _ _ _ x (p .code) in
-    record { root = rw h at (inside _ _ x (p .code)); room = g .room; sizes = sized l k c x p }
+    let f = rw h at (inside _ _ x (p .code)) in
+    record { root = f .0; room = g .room; sizes = sized l k c x p }
 
 -- what a position whose record passes tells
 pub record At (ll rl cl : ℕ) (x : Record) (s : AppendAt) : Type 0 where
@@ -74,8 +75,7 @@ at l k c x s p =
     let g = good _ _ _ (swept x s) (p .code) in
     let h = inside _ _ (swept x s) (p .code) in
     record {
-      i =
-          h;
+      i = h .0;
       last = g .last-high;
       steps = g .steps;
       sizes = sized l k c (swept x s) p;

@@ -15,7 +15,7 @@ use Rattle.rules.specs.Collector.{collect}
 use Rattle.rules.specs.Steps.{step, collecting, codeOf}
 use Rattle.rules.specs.Schedules.{Followed, followed, follow, schedule, collects}
 use Rattle.rules.proofs.Laws.{step-collecting}
-use Rattle.rules.specs.Records.{position}
+use Rattle.rules.specs.Phases.{position}
 use Rattle.lines.specs.Lines.{prints, startOf, collected}
 
 -- one step more, where none was refused

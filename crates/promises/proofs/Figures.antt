@@ -8,15 +8,15 @@ use lib.ListN.{getD}
 use Rattle.base.specs.Choice.{pick, every, first}
 use Rattle.rules.specs.Table.{State, Outcome, unless, edgeOf, withEdge, cleared, shadeIn, badEdge}
 use Rattle.rules.specs.Records.{oneMore, afterAppend}
-use Rattle.rules.specs.Check.{sizeOk, phaseOk, owedOk, lastOk, bound, cycleOk, toldOk, countsOk}
-use Rattle.rules.specs.Check.{recordOk, checkOf}
+use Rattle.rules.specs.Check.{sizeOk, positionOk, secondOk, phaseOk, owedOk, lastOk, bound}
+use Rattle.rules.specs.Check.{cycleOk, toldOk, countsOk, recordOk, checkOf}
 use Rattle.rules.specs.Fresh.{tabulate, nextFree, freshLeft, freshLast, freshState, fresh}
 use Rattle.rules.specs.Places.{sidesOk, turnsOk, placeCode, walkFrom, arrive}
 use Rattle.rules.specs.Editor.{sideCode, owedCode, look, depart, linkTo, link, pay, shadeOwed}
 use Rattle.rules.specs.Editor.{badFree, relink, takeNext, takeFirst, take}
 use Rattle.rules.specs.Collector.{shadeStep, afterRoots, scanStep, edgeStep, blackStep, append}
 use Rattle.rules.specs.Collector.{appendWhite, appendStep, phaseStep, collect}
-use Rattle.rules.specs.Records.{position}
+use Rattle.rules.specs.Phases.{position}
 use Rattle.rules.specs.Steps.{step, run, taking, linking, shading, collecting, looking, codeOf}
 use Rattle.rules.specs.Steps.{nodeOf}
 use Rattle.rules.specs.Schedules.{collects}
@@ -161,7 +161,7 @@ Agrees (f ∷ fs) = (f .computed ≡ f .told) × Agrees fs
 
 pub figures : Agrees table
 unfolding pick every first unless edgeOf withEdge cleared shadeIn badEdge oneMore afterAppend sizeOk
-    phaseOk owedOk lastOk bound cycleOk toldOk countsOk recordOk checkOf tabulate nextFree freshLeft
+    positionOk secondOk phaseOk owedOk lastOk bound cycleOk toldOk countsOk recordOk checkOf tabulate nextFree freshLeft
     freshLast freshState fresh sidesOk turnsOk placeCode walkFrom arrive sideCode owedCode look
     depart linkTo link pay shadeOwed badFree relink takeNext takeFirst take shadeStep afterRoots
     scanStep edgeStep blackStep append appendWhite appendStep phaseStep collect step run collects

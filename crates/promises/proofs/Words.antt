@@ -1,6 +1,6 @@
 -- Demand 3 for the calls for C: the words that a start writes are a record's and stay a record's,
 -- so that each call is the run of steps that it is over the record.
-use Prim.Native.Nat.{ℕ, _≤_}
+use Prim.Native.Nat.{ℕ, zero, suc, _≤_}
 use mathlib.Core.Bool.{true}
 use mathlib.Core.List.{List, [], _∷_}
 use mathlib.Core.Path.{_≡_, refl, sym, ap, subst}
@@ -8,23 +8,23 @@ use native.Mathlib.Omega.{arith}
 use lib.ListN.{take}
 use Rattle.base.proofs.Tests.{pick-yes}
 use Rattle.rules.specs.Table.{State, mostNodes, mostSlots}
-use Rattle.rules.specs.Records.{position}
+use Rattle.rules.specs.Phases.{tagOf, position, second}
 use Rattle.rules.specs.Check.{bound}
 use Rattle.rules.specs.InUse.{inUse}
 use Rattle.rules.specs.Steps.{run, taking, linking, shading, collecting, looking}
 use Rattle.rules.specs.Schedules.{Followed, schedule, collects}
-use Rattle.rules.specs.Facts.{InRange, Owable}
+use Rattle.rules.specs.Facts.{Inside, InRange, Owable}
 use Rattle.rules.specs.declared.Step.{Step}
 use Rattle.rules.specs.declared.Answer.{Answer}
 use Rattle.rules.specs.declared.Phase.{Phase}
-use Rattle.rules.specs.declared.Phase.the-variants.{Roots, Scan, Left, Right, Black, Append}
 use Rattle.rules.specs.declared.Owed.{Owed}
 use Rattle.rules.specs.declared.Owed.the-variants.{Nothing, Node}
 use Rattle.rules.proofs.Checked.{good, inside, owable}
+use Rattle.rules.proofs.Phases.{tag-most}
 use Rattle.rules.proofs.Sizes.{square}
-use Rattle.record_words.specs.Words.{kOf, owedOf, wordsOf, isRecord}
+use Rattle.record_words.specs.Words.{owedOf, wordsOf, isRecord}
 use Rattle.record_words.proofs.RoundTrip.{record-back}
-use Rattle.record_words.proofs.Widths.{words-are, tag-most, owes-most}
+use Rattle.record_words.proofs.Widths.{words-are, owes-most}
 use Rattle.jenturik_c.specs.Face.{face, asking}
 use Rattle.jenturik_c.specs.Flat.{stepsOf, scheduleOf}
 use Rattle.jenturik_c.proofs.Kept.{Follows, schedule-follows, words-follow, done-kept}
@@ -39,14 +39,13 @@ use Rattle.promises.specs.Words.{Collect, CollectMany, Schedule}
 use Rattle.promises.proofs.CallRuns as R
 
 -- numbers inside a table have their widths
+position-fits : (m r tag i : ℕ) → m ≤ mostNodes → r ≤ mostSlots → Inside m r tag i → i ≤ 65535
+position-fits m r zero i a b h = omega arith
+position-fits m r (suc tag) i a b h = omega arith
+
 phase-fits : (m r : ℕ) (p : Phase) → m ≤ mostNodes → r ≤ mostSlots → InRange m r p
-    → (position p ≤ 65535) × (kOf p ≤ 65535)
-phase-fits m r (Roots i) a b h = omega arith
-phase-fits m r (Scan i k) a b h = omega arith
-phase-fits m r (Left i) a b h = omega arith
-phase-fits m r (Right i) a b h = omega arith
-phase-fits m r (Black i) a b h = omega arith
-phase-fits m r (Append i) a b h = omega arith
+    → (position p ≤ 65535) × (second p ≤ 65535)
+phase-fits m r p a b h = (position-fits m r (tagOf p) (position p) a b (h .0), omega (arith, h .1))
 
 owed-fits : (m : ℕ) (o : Owed) → m ≤ mostNodes → Owable m o → owedOf o ≤ 65535
 owed-fits m Nothing a h = omega arith

@@ -12,11 +12,12 @@ use Rattle.base.specs.Choice.{pick, every, first}
 use Rattle.rules.specs.Table.{State, sides, Outcome, state, did, refuse, unless, black, left, right}
 use Rattle.rules.specs.Table.{edgeOf, edge, withEdge, cleared, colourOf, withColour, shadeIn, shade}
 use Rattle.rules.specs.Table.{badEdge}
+use Rattle.rules.specs.Phases.{BLACK, APPEND, tagOf, position, second}
 use Rattle.rules.specs.Records.{freshRecord, withPhase, withOwed, withLast, withSteps}
 use Rattle.rules.specs.Records.{withLastBlackened}
 use Rattle.rules.specs.Records.{owing, moved, marked, rescan, oneMore, afterAppend}
-use Rattle.rules.specs.Check.{sizeOk, phaseOk, owedOk, lastOk, bound, cycleOk, toldOk, countsOk}
-use Rattle.rules.specs.Check.{recordOk, checkOf, check}
+use Rattle.rules.specs.Check.{sizeOk, positionOk, secondOk, phaseOk, owedOk, lastOk, bound}
+use Rattle.rules.specs.Check.{cycleOk, toldOk, countsOk, recordOk, checkOf, check}
 use Rattle.rules.specs.Fresh.{tabulate, nextFree, freshLeft, freshLast, freshState, fresh}
 use Rattle.rules.specs.Places.{sidesOk, turnsOk, placeCode, walkFrom, walk, arrive}
 use Rattle.rules.specs.Editor.{sideCode, owedCode, look, depart, linkTo, link, pay, shadeOwed}
@@ -32,7 +33,7 @@ use Rattle.rules.specs.declared.Step.{Step}
 use Rattle.rules.specs.declared.Owed.{Owed}
 use Rattle.rules.specs.declared.Owed.the-variants.{Nothing, Node}
 use Rattle.rules.specs.declared.Phase.{Phase}
-use Rattle.rules.specs.declared.Phase.the-variants.{Roots, Scan, Left, Right, Black, Append}
+use Rattle.rules.specs.declared.Phase.the-variants.{Roots, Scan, Append}
 use Rattle.rules.specs.declared.Answer.{Answer}
 use Rattle.rules.specs.declared.Answer.the-variants.{Started, Named, Linked, Taken, Shaded, Looked}
 use Rattle.rules.specs.declared.Answer.the-variants.{Blackened, Whitened, Appended, Counted}
@@ -76,20 +77,20 @@ shadesFirst =
     kind 1 (λ a s. depart s (source a)
     (λ n. arrive s (walk s (target a)) (λ t. did (Linked t) (shade s t) (owing (s .rec) t))))
 
+-- a collector step of its own in one phase, whose number is given, at the phase's position
+abbrev inPhase : ℕ → (ℕ → State → Outcome) → State → Outcome
+inPhase tag by s =
+    pick (eqb (tagOf (s .rec .phase)) tag) (by (position (s .rec .phase)) s) (collect s)
+
 -- [Mistakes 2] Black does not begin the pass again
-abbrev onePass : Phase → State → Outcome
-onePass (Roots i) s = collect s
-onePass (Scan i k) s = collect s
-onePass (Left i) s = collect s
-onePass (Right i) s = collect s
-onePass (Black i) s =
+abbrev onePass : ℕ → State → Outcome
+onePass i s =
     did (Blackened i) (withColour s i black)
     (pick (eqb (i + 1) (s .rec .m)) (marked (s .rec))
     (moved (rescan (s .rec) i) (Scan (i + 1) (s .rec .m - (i + 1)))))
-onePass (Append i) s = collect s
 
 abbrev passesOnce : Step → State → Outcome
-passesOnce = kind 3 (λ a s. onePass (s .rec .phase) s)
+passesOnce = kind 3 (λ a s. inPhase BLACK onePass s)
 
 -- [Mistakes 3]
 abbrev blackensTarget : Step → State → Outcome
@@ -135,17 +136,12 @@ abbrev absentLate : Step → State → Outcome
 absentLate = kind 1 (λ a s. arrive s (walk s (target a)) (λ t. step a s))
 
 -- Append that passes last if it is white [Damage 4]
-abbrev appendsLast : Phase → State → Outcome
-appendsLast (Roots i) s = collect s
-appendsLast (Scan i k) s = collect s
-appendsLast (Left i) s = collect s
-appendsLast (Right i) s = collect s
-appendsLast (Black i) s = collect s
-appendsLast (Append i) s = pick (eqb i (s .rec .last))
+abbrev appendsLast : ℕ → State → Outcome
+appendsLast i s = pick (eqb i (s .rec .last))
     (did (Appended i) (append s i) (afterAppend (withLast (s .rec) i) i)) (collect s)
 
 abbrev missesLast : Step → State → Outcome
-missesLast = kind 3 (λ a s. appendsLast (s .rec .phase) s)
+missesLast = kind 3 (λ a s. inPhase APPEND appendsLast s)
 
 -- a record test that asks only for what is given
 abbrev asks : (Record → Bool) → Step → State → Outcome
@@ -217,15 +213,6 @@ deed (Counted k) = 10
 abbrev colour : ℕ → Outcome → ℕ
 colour n o = colourOf (o .state) n
 
--- the k of Scan
-abbrev looks : Phase → ℕ
-looks (Roots i) = 0
-looks (Scan i k) = k
-looks (Left i) = 0
-looks (Right i) = 0
-looks (Black i) = 0
-looks (Append i) = 0
-
 -- ---- the table: at this state this step is done wrong; what is seen gives one number, and the
 -- promise another
 pub record Row : Type 0 where
@@ -248,7 +235,7 @@ table =
     row inventsSteps collecting three (λ o. o .state .rec .steps) 2 1 ∷
     row inventsLastBlackened collecting three (λ o. o .state .rec .lastblackened) 3 0 ∷
     row shadesFirst (linking (at 0 0) 0 (at 1 1)) two (λ o. edge (o .state) left 2) 3 4 ∷
-    row passesOnce collecting (run (collects 6) three) (λ o. looks (o .state .rec .phase)) 2 3 ∷
+    row passesOnce collecting (run (collects 6) three) (λ o. second (o .state .rec .phase)) 2 3 ∷
     row blackensTarget (linking (at 0 0) 0 (at 1 1)) two (colour 4) 2 1 ∷
     row keepsRight collecting litter (λ o. edge (o .state) right 3) 4 0 ∷
     row keepsLast (taking (at 0 0) 1) one (λ o. o .state .rec .last) 4 1 ∷
@@ -280,7 +267,7 @@ not-promised r c e =
 
 pub ruled-out : every (map caught table) ≡ true
 unfolding pick every first unless edgeOf withEdge cleared shadeIn badEdge oneMore afterAppend sizeOk
-    phaseOk owedOk lastOk bound cycleOk toldOk countsOk recordOk checkOf tabulate nextFree freshLeft
+    positionOk secondOk phaseOk owedOk lastOk bound cycleOk toldOk countsOk recordOk checkOf tabulate nextFree freshLeft
     freshLast freshState fresh sidesOk turnsOk placeCode walkFrom arrive sideCode owedCode look
     depart linkTo link pay shadeOwed badFree relink takeNext takeFirst take shadeStep afterRoots
     scanStep edgeStep blackStep append appendWhite appendStep phaseStep collect step run collects

@@ -25,7 +25,7 @@ use Rattle.runs.proofs.Tables.{rows-kept}
 use Rattle.runs.proofs.Bill.{bill-edit}
 use Rattle.runs.proofs.Sound.{abs, top, Sound, sizes, Ready, ready}
 use Rattle.runs.proofs.Simulates.{act, named, counts, Ticked, on, over, Simulates}
-use Rattle.runs.proofs.AppendStep.{collect-made, sound-made}
+use Rattle.runs.proofs.WorkStep.{collect-made, sound-made}
 use Rattle.runs.proofs.Edited.{Edited, refused, made-there}
 use Rattle.runs.proofs.LinkStep.{look-edited, link-edited}
 use Rattle.runs.proofs.TakeStep.{shade-edited, take-edited}

@@ -5,7 +5,6 @@ use Prim.Native.Nat.{ℕ, suc, _+_, _*_, _≤_}
 use mathlib.Core.Bool.{Bool, true, false, true≢false}
 use mathlib.Core.Path.{_≡_, refl, sym, ap, _∙_}
 use mathlib.Core.List.{List, [], _∷_}
-use mathlib.Core.Option.{Option}
 use native.Mathlib.Nat.{mul-le-mul-right}
 use native.Mathlib.Omega.{arith}
 use Rattle.base.specs.Choice.{pick}
@@ -13,15 +12,12 @@ use Rattle.base.proofs.Tests.{each}
 use Rattle.rules.specs.Table.{State}
 use Rattle.rules.specs.Steps.{step}
 use Rattle.rules.specs.declared.Step.{Step}
-use Rattle.rules.specs.declared.Phase.{Phase}
 use Rattle.rules.specs.declared.Phase.the-variants.{Roots}
-use Rattle.theory.specs.Reach.{Graph}
 use Rattle.theory.specs.Phase as K
 use Rattle.theory.proofs.Update.{Colours}
-use Rattle.theory.proofs.Invariant.{InPhase, at-append}
-use Rattle.runs.specs.Runs.{after, collectorSteps, kind, appendAt, lastAppend, completes}
+use Rattle.runs.specs.Runs.{after, collectorSteps, kind, lastAppend, completes}
 use Rattle.runs.specs.Runs.{blackens, Count}
-use Rattle.runs.proofs.Bill.{Bill, of-roots, of-scan, of-working, of-append}
+use Rattle.runs.proofs.Bill.{Bill, of-roots, last-paid}
 use Rattle.runs.proofs.Sound.{Sound}
 use Rattle.runs.proofs.AnyStep.{Stepped, goes-on, closes, edits, stepped, sound-step}
 use Rattle.runs.proofs.Machine.{one-more, no-more}
@@ -35,16 +31,6 @@ at-last : {E : ℕ} (c : Step) (s : State) → Sound E s → completes c s ≡ t
     → lastAppend (s .rec .m) (kind E (s .rec .phase)) ≡ true
 unfolding completes
 at-last c s g e = rw (g .rows .count) at (each _ (sym e) .1 .0)
-
--- the bill at the step that completes a cycle
-last-paid : {E m r : ℕ} {g : Graph} {c : Colours} {o : Option ℕ} {n b : ℕ} {ph : Phase}
-    {k : K.Phase} → lastAppend m k ≡ true
-    → InPhase E m (suc (suc r)) g c o k → Bill E m r c n b ph k → n + 1 ≤ tight E m r b
-unfolding appendAt
-last-paid e v (of-roots q z) = absurd (true≢false (sym e))
-last-paid e v (of-scan w) = absurd (true≢false (sym e))
-last-paid e v (of-working w) = absurd (true≢false (sym e))
-last-paid e v (of-append w) = omega (arith, w .paid, at-append v .pos)
 
 one-black : (t : Bool) (b k : ℕ) → pick t (b + 1) b + k ≡ b + (pick t 1 0 + k)
 unfolding pick

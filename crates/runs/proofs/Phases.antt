@@ -4,10 +4,10 @@ use Prim.Native.Nat.{ℕ, suc, _<_}
 use mathlib.Core.Bool.{true, false, true≢false}
 use mathlib.Core.Path.{_≡_, refl, sym, ap, _∙_}
 use native.Mathlib.Omega.{arith}
-use lib.Dec.{ltb}
 use Rattle.rules.specs.Table.{State, edge}
 use Rattle.rules.specs.Check.{phaseOk}
 use Rattle.rules.specs.Collector.{edgeStep, phaseStep}
+use Rattle.rules.proofs.PhaseSteps.{node-ok}
 use Rattle.rules.specs.declared.Phase.{Phase}
 use Rattle.rules.specs.declared.Phase.the-variants.{Roots, Scan, Left, Right, Black, Append}
 use Rattle.theory.specs.Phase as S
@@ -20,7 +20,7 @@ pub record Shades (E : ℕ) (ph : Phase) (i j : ℕ) : Type 0 where
   pub here : kind E ph ≡ S.Working i j
   pub next : kind E then ≡ S.Working i (suc j)
   pub below : j < E
-  pub test : (m r : ℕ) → phaseOk m r ph ≡ ltb i m
+  pub test : (m r : ℕ) → i < m → true ≡ phaseOk m r ph
   pub step : (s : State) → phaseStep s ph ≡ edgeStep s i (edge s j i) then
 
 pub data View (E : ℕ) : Phase → Type 0 where
@@ -31,7 +31,7 @@ pub data View (E : ℕ) : Phase → Type 0 where
   appending : (i : ℕ) → View E (Append i)
 
 pub view : {E : ℕ} → Served E → (ph : Phase) → View E ph
-unfolding phaseOk phaseStep
+unfolding phaseStep
 view few (Roots i) = rooting i
 view few (Scan i k) = seeking i k
 view few (Left i) = shading {i = i} {j = 0} record {
@@ -39,7 +39,7 @@ view few (Left i) = shading {i = i} {j = 0} record {
   here = refl;
   next = refl;
   below = omega (arith, few);
-  test = λ m r. refl;
+  test = λ m r h. node-ok m r (Left i) (omega arith) refl h;
   step = λ s. refl;
 }
 view few (Right i) = shading {i = i} {j = 1} record {
@@ -47,7 +47,7 @@ view few (Right i) = shading {i = i} {j = 1} record {
   here = refl;
   next = ap (S.Working i) few;
   below = omega (arith, few);
-  test = λ m r. refl;
+  test = λ m r h. node-ok m r (Right i) (omega arith) refl h;
   step = λ s. refl;
 }
 view few (Black i) = blackening i

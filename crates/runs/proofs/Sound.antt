@@ -14,23 +14,21 @@ use Rattle.base.specs.Choice.{every}
 use Rattle.base.proofs.Tests.{lt-yes, le-yes, eq-yes, eq-no, or-first, or-skip, not-is, every-skip}
 use Rattle.base.proofs.Tests.{every-last, pick-yes, tests}
 use Rattle.rules.specs.Table.{State, edge, colourOf, mostNodes, mostSlots}
-use Rattle.rules.specs.Check.{sizeOk, phaseOk, owedOk, lastOk, bound, cycleOk, countsOk, recordOk}
+use Rattle.rules.specs.Check.{sizeOk, owedOk, lastOk, bound, cycleOk, countsOk, recordOk}
 use Rattle.rules.specs.Check.{checkOf, check}
 use Rattle.rules.specs.Facts.{Tells}
 use Rattle.rules.proofs.Checked.{tells-ok}
 use Rattle.rules.specs.declared.Phase.{Phase}
 use Rattle.rules.specs.declared.Owed.{Owed}
 use Rattle.rules.specs.declared.Owed.the-variants.{Nothing, Node}
-use Rattle.theory.specs.Reach.{Graph}
-use Rattle.theory.proofs.Update.{Colours}
 use Rattle.theory.proofs.Steps as S
-use Rattle.theory.proofs.Invariant.{Sizes, InPhase, Inv, at-roots, at-work, at-append}
+use Rattle.theory.proofs.Invariant.{Sizes, Inv}
 use Rattle.theory.proofs.Facts.{owed-lies, last-lies}
 use Rattle.runs.specs.Runs.{kind}
 use Rattle.runs.specs.Start.{Served}
 use Rattle.runs.proofs.Tables.{Rows}
-use Rattle.runs.proofs.Phases.{View, rooting, seeking, shading, blackening, appending, view}
-use Rattle.runs.proofs.Bill.{Bill, of-scan, below-bound, blackened-le}
+use Rattle.runs.proofs.Phases.{view}
+use Rattle.runs.proofs.Bill.{Bill, phase-ok, below-bound, blackened-le}
 
 -- the node owed, if any
 abbrev pub owes : Owed → Option ℕ
@@ -100,17 +98,6 @@ unfolding sizeOk
 size-ok {E} {s} f =
     let rest = all-equal E (s .rec .m) _ (every-last _ _ (eq-yes _ _ (f .colours))) in
     search (tests, f .m-low, f .m-high, f .r-low, f .r-high, f .room, rest) depth 12
-
-phase-ok : {E m r : ℕ} {s : Graph} {c : Colours} {o : Option ℕ} {n b : ℕ} {ph : Phase} → View E ph
-    → InPhase E m (suc (suc r)) s c o (kind E ph)
-    → Bill E m r c n b ph (kind E ph) → true ≡ phaseOk m r ph
-unfolding phaseOk
-phase-ok {r = r} (rooting i) v b = le-yes i (r + 1) (omega (arith, at-roots v .pos))
-phase-ok (seeking i k) v (of-scan w) = search (tests, w .pos, w .low, w .high)
-phase-ok {m =
-    m} {r} (shading k) v b = rw (k .test m r) (lt-yes _ _ (at-work (rw (k .here) at v) .pos))
-phase-ok (blackening i) v b = lt-yes _ _ (at-work v .pos)
-phase-ok (appending i) v b = lt-yes _ _ (at-append v .pos)
 
 pub owed-ok : {m : ℕ} (o : Owed) → ((x : ℕ) → owes o ≡ some x → (x ≢ 1) × (x < m)) → true
     ≡ owedOk m o

@@ -40,8 +40,8 @@ at l k c x s p =
     record {
       i =
           h .0;
-      low = h .1 .0;
-      high = h .1 .1;
+      low = h .2;
+      high = h .1;
       blackened = g .blackened;
       steps = g .steps;
       sizes = sized l k c (standing x s) p;

@@ -28,15 +28,6 @@ enum-known-phase-3 c = search needs
 appends-requires : tie.Need-appends-requires
 appends-requires c κs = search needs
 
-enum-told : tie.Need-enum-told
-enum-told c = search needs
-
-enum-told-2 : tie.Need-enum-told-2
-enum-told-2 c = search needs
-
-enum-told-3 : tie.Need-enum-told-3
-enum-told-3 c = search needs
-
 same-length : tie.Need-same-length
 same-length c = search needs
 
@@ -75,17 +66,7 @@ returns-4 c = search needs
 
 returns-5 : tie.Need-returns-5
 returns-5 c =
-    let at-entry = c .before .before .before .before .before .before in
-    (omega arith, stay _ 0 0 refl refl (at-entry .pre .0))
-
-returns-6 : tie.Need-returns-6
-returns-6 c =
-    let at-entry = c .before .before .before .before .before .before in
-    (omega arith, stay _ 0 0 refl refl (at-entry .pre .0))
-
-returns-7 : tie.Need-returns-7
-returns-7 c =
-    let at-entry = c .before .before .before .before .before .before in
+    let at-entry = c .before .before .before .before .before in
     (omega arith, stay _ 0 0 refl refl (at-entry .pre .0))
 
 pub stride-spec : {M : Type 1} → statement M
@@ -99,9 +80,6 @@ stride-spec =
     scans-requires
     enum-known-phase-3
     appends-requires
-    enum-told
-    enum-told-2
-    enum-told-3
     same-length
     same-length-2
     same-length-3
@@ -114,6 +92,4 @@ stride-spec =
     same-length-8
     same-length-9
     returns-4
-    returns-5
-    returns-6
-    returns-7)
+    returns-5)

@@ -2,7 +2,7 @@
 -- nothing follows, as in the definition.
 use native.Mathlib.Omega.{arith}
 use borrow.Author.Needs.{needs}
-use Rattle.rules.specs.Records.{position}
+use Rattle.rules.specs.Phases.{position}
 use Rattle.lines.proofs.Collects.{most, stopped, last}
 use Rattle.lines.proofs.collect_some.Statement.{statement}
 use Rattle.lines.proofs.collect_some.Tie as tie
