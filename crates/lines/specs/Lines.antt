@@ -7,7 +7,8 @@ use lib.Dec.{leb, eqb}
 use Rattle.rules.specs.Table.{State, Outcome, state, mostNodes}
 use Rattle.rules.specs.Fresh.{fresh}
 use Rattle.rules.specs.Load.{load}
-use Rattle.rules.specs.Records.{position, freshRecord}
+use Rattle.rules.specs.Phases.{position}
+use Rattle.rules.specs.Records.{freshRecord}
 use Rattle.rules.specs.Steps.{step, codeOf, nodeOf}
 use Rattle.rules.specs.Schedules.{schedule, collects}
 use Rattle.text.specs.declared.Said.{Said}
