@@ -11,7 +11,6 @@ use lib.Seq.{drop-cons}
 use borrow.Author.Tests.{eqb-true, eqb-false}
 use Rattle.base.specs.Choice.{pick}
 use Rattle.base.proofs.Tests.{each, facts, split, eq-no}
-use Rattle.rules.specs.Phases.{hasSecond}
 use Rattle.rules.proofs.Phases.{phase-back, phase-there}
 use Rattle.rules.specs.declared.Record.{Record}
 use Rattle.rules.specs.declared.Owed.{Owed}

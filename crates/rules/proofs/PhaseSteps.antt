@@ -1,17 +1,17 @@
 -- What the step of a phase comes to, whatever the phase: one of the seven below. What is shown of
 -- these holds of every collector step, so only this file goes through the phases.
 use Prim.Native.Nat.{ℕ, _+_, _-_, _≤_, _<_}
-use mathlib.Core.Path.{_≡_, refl, sym}
-use mathlib.Core.Bool.{Bool, true, false, _||_}
+use mathlib.Core.Path.{_≡_, refl, sym, _∙_}
+use mathlib.Core.Bool.{Bool, true, false, true≢false, _||_}
+use mathlib.Core.List.{[], _∷_}
 use native.Mathlib.Omega.{arith}
 use native.Mathlib.Nat.{mod-lt}
-use lib.Dec.{eqb}
+use lib.Dec.{ltb, leb, eqb}
 use borrow.Author.Tests.{leb-false, eqb-true, eqb-false}
-use Rattle.base.specs.Choice.{pick}
+use Rattle.base.specs.Choice.{pick, every}
 use Rattle.base.proofs.Tests.{split, le-yes, lt-yes, eq-no, pick-no, every-skip, every-last}
-use Rattle.base.proofs.Tests.{every-none}
-use Rattle.rules.specs.Table.{State, Outcome, did, unless, white, black, edge, withColour}
-use Rattle.rules.specs.Table.{shade, left, right}
+use Rattle.rules.specs.Table.{State, Outcome, did, unless, white, black, withColour}
+use Rattle.rules.specs.Table.{shade}
 use Rattle.rules.specs.Phases.{ROOTS, tagOf, position, second, hasSecond}
 use Rattle.rules.specs.Records.{withLast, moved, marked, next, rescan, afterAppend}
 use Rattle.rules.specs.Check.{positionOk, secondOk, phaseOk, check}
@@ -25,12 +25,29 @@ use Rattle.rules.specs.declared.Phase.{Phase}
 use Rattle.rules.specs.declared.Phase.the-variants.{Roots, Scan, Left, Right, Black, Append}
 use Rattle.rules.proofs.Checked.{m-low, inside}
 
--- what passes the test of a phase: Roots; any other, by its position and its second number; and one
--- that has none, by its position
-pub roots-ok : (m r i : ℕ) → i ≤ r + 1 → true ≡ phaseOk m r (Roots i)
-unfolding phaseOk positionOk secondOk pick
-roots-ok m r i h = every-skip _ _ _ (le-yes _ _ h) (every-last _ _ refl)
+only-first : (z a b : Bool) → z ≡ a → true ≡ b → z ≡ every (a ∷ b ∷ [])
+unfolding every
+only-first z true true h k = h
+only-first z true false h k = absurd (true≢false k)
+only-first z false b h k = h
 
+-- the test of a phase: of Roots, and of any other that has no second number
+pub roots-test : (m r i : ℕ) → leb i (r + 1) ≡ phaseOk m r (Roots i)
+unfolding phaseOk positionOk secondOk pick
+roots-test m r i = only-first _ _ _ refl refl
+
+pub node-test : (m r : ℕ) (p : Phase) → ROOTS < tagOf p → hasSecond (tagOf p) ≡ false
+    → ltb (position p) m ≡ phaseOk m r p
+unfolding phaseOk positionOk secondOk
+node-test m r p t e =
+    only-first _ _ _ (pick-no _ _ _ _ (eq-no (tagOf p) ROOTS (λ z. omega arith)) refl)
+    (pick-no _ _ _ _ (sym e) refl)
+
+-- what passes it
+pub roots-ok : (m r i : ℕ) → i ≤ r + 1 → true ≡ phaseOk m r (Roots i)
+roots-ok m r i h = le-yes _ _ h ∙ roots-test m r i
+
+-- by its position and its second number
 both-ok : (m r : ℕ) (p : Phase) → ROOTS < tagOf p → position p < m
     → true ≡ secondOk m (tagOf p) (second p) → true ≡ phaseOk m r p
 unfolding phaseOk positionOk
@@ -40,8 +57,7 @@ both-ok m r p t h k =
 
 pub node-ok : (m r : ℕ) (p : Phase) → ROOTS < tagOf p → hasSecond (tagOf p) ≡ false
     → position p < m → true ≡ phaseOk m r p
-unfolding secondOk
-node-ok m r p t e h = both-ok m r p t h (pick-no _ _ _ _ (sym e) refl)
+node-ok m r p t e h = lt-yes _ _ h ∙ node-test m r p t e
 
 pub scan-ok : (m r i k : ℕ) → i < m → 1 ≤ k → k ≤ m → true ≡ phaseOk m r (Scan i k)
 unfolding secondOk pick

@@ -1,7 +1,7 @@
 -- A phase and its three numbers tell the same.
 use Prim.Native.Nat.{ℕ, zero, suc, _≤_}
 use mathlib.Core.Bool.{false, true≢false}
-use mathlib.Core.Path.{_≡_, refl, sym}
+use mathlib.Core.Path.{_≡_, refl}
 use native.Mathlib.Omega.{arith}
 use Rattle.base.specs.Choice.{pick}
 use Rattle.rules.specs.Phases.{mostTag, tagOf, position, second, hasSecond, phaseOf}

@@ -10,8 +10,8 @@ ghost use Rattle.rules.specs.Phases.{tagOf, position, second, hasSecond,
 ghost use Rattle.rules.specs.Records.{freshRecord, withPhase, withOwed, withLast};
 ghost use Rattle.rules.specs.Records.{owing, paid, moved, marked, rescan, oneMore, closed};
 ghost use Rattle.rules.specs.Records.{afterAppend};
-ghost use Rattle.rules.specs.Check.{sizeOk, positionOk, secondOk, phaseOk, owedOk, lastOk};
-ghost use Rattle.rules.specs.Check.{bound, cycleOk, toldOk, countsOk, recordOk, checkOf};
+ghost use Rattle.rules.specs.Check.{sizeOk, phaseOk, owedOk, lastOk, bound, cycleOk, toldOk};
+ghost use Rattle.rules.specs.Check.{countsOk, recordOk, checkOf};
 ghost use Rattle.rules.specs.Steps.{codeOf, nodeOf};
 
 // [Table 1] The most nodes that a table has, and the most slots.
@@ -235,36 +235,27 @@ pub fn phase_of(tag: u32, i: u16, k: u16) -> Phase
     Phase::Append(i)
 }
 
-fn position_ok(m: u16, r: u16, tag: u32, i: u16) -> bool
-    requires { ⌜ r ≤ mostSlots ⌝ }
-    ensures { λ ok. ⌜ ok ≡ positionOk m r tag i ⌝ }
-{
-    if tag == ROOTS {
-        return i <= r + 1;
-    }
-    i < m
-}
-
-fn second_ok(m: u16, tag: u32, k: u16) -> bool
-    ensures { λ ok. ⌜ ok ≡ secondOk m tag k ⌝ }
-{
-    if tag != SCAN {
-        return true;
-    }
-    if k < 1 {
-        return false;
-    }
-    k <= m
-}
-
+// An arm for each phase and not its numbers: this is done at every step.
 fn phase_ok(m: u16, r: u16, p: Phase) -> bool
     requires { ⌜ r ≤ mostSlots ⌝ }
     ensures { λ ok. ⌜ ok ≡ phaseOk m r p ⌝ }
 {
-    if !position_ok(m, r, tag(p), position(p)) {
-        return false;
+    match p {
+        Phase::Roots(i) => i <= r + 1,
+        Phase::Scan(i, k) => {
+            if m <= i {
+                return false;
+            }
+            if k < 1 {
+                return false;
+            }
+            k <= m
+        }
+        Phase::Left(i) => i < m,
+        Phase::Right(i) => i < m,
+        Phase::Black(i) => i < m,
+        Phase::Append(i) => i < m,
     }
-    second_ok(m, tag(p), second(p))
 }
 
 fn owed_ok(m: u16, owed: Owed) -> bool

@@ -1,57 +1,79 @@
--- The two tests are the definition's two, in its order, each known by its function's contract.
+-- In each arm the phase is known, and the definition at it is the arm's test. R is at most 64,
+-- so that R + 1 fits.
+use mathlib.Core.Path.{refl}
+use native.Mathlib.Omega.{arith}
 use borrow.Author.Needs.{needs}
-use Rattle.base.proofs.Tests.{tests, called, not-no, every-skip, every-last}
-use Rattle.rules.specs.Check.{phaseOk}
+use Rattle.base.proofs.Tests.{tests}
+use Rattle.rules.specs.Check.{positionOk, secondOk, phaseOk}
+use Rattle.rules.specs.declared.Phase.the-variants.{Left, Right, Black, Append}
+use Rattle.rules.proofs.PhaseSteps.{roots-test, node-test}
 use Rattle.rules.proofs.phase_ok.Statement.{statement}
 use Rattle.rules.proofs.phase_ok.Tie as tie
 
-tag-requires : tie.Need-tag-requires
-tag-requires c κs = search needs
+enum-known-p : tie.Need-enum-known-p
+enum-known-p c = search needs
 
-position-requires : tie.Need-position-requires
-position-requires c κs = search needs
+add-result : tie.Need-add-result
+add-result c = search needs
 
-position-ok-requires : tie.Need-position-ok-requires
-position-ok-requires c κs = search needs
+enum-known-p-2 : tie.Need-enum-known-p-2
+enum-known-p-2 c = search needs
 
 returns : tie.Need-returns
-unfolding phaseOk
-returns c =
-    let at-position = c .before .before in
-    rw (← at-position .position .ensures, ← at-position .before .tag .ensures)
-    (search (tests, needs) depth 12)
-
-tag-requires-2 : tie.Need-tag-requires-2
-tag-requires-2 c κs = search needs
-
-second-requires : tie.Need-second-requires
-second-requires c κs = search needs
-
-second-ok-requires : tie.Need-second-ok-requires
-second-ok-requires c κs = search needs
+unfolding phaseOk positionOk secondOk
+returns c = rw (c .before .before .p2 .given .1) (search (tests, needs) depth 12)
 
 returns-2 : tie.Need-returns-2
-unfolding phaseOk
-returns-2 c =
-    let at-second = c .before in
-    let at-if1 = at-second .before .before in
-    let at-position = at-if1 .before .before in
-    every-skip _ _ _
-    (rw (← at-position .position .ensures, ← at-position .before .tag .ensures)
-    (called _ _ _ (at-if1 .before .position-ok .ensures) (not-no _ (at-if1 .if1 .left))))
-    (every-last _ _
-    (rw (← at-second .second .ensures, ← at-second .before .tag2 .ensures)
-    (c .second-ok .ensures)))
+unfolding phaseOk positionOk secondOk
+returns-2 c = rw (c .before .before .before .p2 .given .1) (search (tests, needs) depth 12)
+
+enum-known-p-3 : tie.Need-enum-known-p-3
+enum-known-p-3 c = search needs
+
+enum-known-p-4 : tie.Need-enum-known-p-4
+enum-known-p-4 c = search needs
+
+enum-known-p-5 : tie.Need-enum-known-p-5
+enum-known-p-5 c = search needs
+
+enum-known-p-6 : tie.Need-enum-known-p-6
+enum-known-p-6 c = search needs
+
+returns-3 : tie.Need-returns-3
+returns-3 c = rw (c .before .p .given .1) (roots-test _ _ _)
+
+returns-4 : tie.Need-returns-4
+unfolding phaseOk positionOk secondOk
+returns-4 c = rw (c .before .before .before .p2 .given .1) (search (tests, needs) depth 12)
+
+returns-5 : tie.Need-returns-5
+returns-5 c = rw (c .before .p3 .given .1) (node-test _ _ (Left _) (omega arith) refl)
+
+returns-6 : tie.Need-returns-6
+returns-6 c = rw (c .before .p4 .given .1) (node-test _ _ (Right _) (omega arith) refl)
+
+returns-7 : tie.Need-returns-7
+returns-7 c = rw (c .before .p5 .given .1) (node-test _ _ (Black _) (omega arith) refl)
+
+returns-8 : tie.Need-returns-8
+returns-8 c = rw (c .before .p6 .given .1) (node-test _ _ (Append _) (omega arith) refl)
 
 pub phase-ok-spec : {M : Type 1} → statement M
 phase-ok-spec =
     tie.close
     (tie.spec
-    tag-requires
-    position-requires
-    position-ok-requires
+    enum-known-p
+    add-result
+    enum-known-p-2
     returns
-    tag-requires-2
-    second-requires
-    second-ok-requires
-    returns-2)
+    returns-2
+    enum-known-p-3
+    enum-known-p-4
+    enum-known-p-5
+    enum-known-p-6
+    returns-3
+    returns-4
+    returns-5
+    returns-6
+    returns-7
+    returns-8)
