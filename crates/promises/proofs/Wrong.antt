@@ -12,7 +12,7 @@ use Rattle.base.specs.Choice.{pick, every, first}
 use Rattle.rules.specs.Table.{State, sides, Outcome, state, did, refuse, unless, black, left, right}
 use Rattle.rules.specs.Table.{edgeOf, edge, withEdge, cleared, colourOf, withColour, shadeIn, shade}
 use Rattle.rules.specs.Table.{badEdge}
-use Rattle.rules.specs.Phases.{BLACK, APPEND, tagOf, position, second}
+use Rattle.rules.specs.Phases.{blackTag, appendTag, tagOf, position, second}
 use Rattle.rules.specs.Records.{freshRecord, withPhase, withOwed, withLast, withSteps}
 use Rattle.rules.specs.Records.{withLastBlackened}
 use Rattle.rules.specs.Records.{owing, moved, marked, rescan, oneMore, afterAppend}
@@ -90,7 +90,7 @@ onePass i s =
     (moved (rescan (s .rec) i) (Scan (i + 1) (s .rec .m - (i + 1)))))
 
 abbrev passesOnce : Step → State → Outcome
-passesOnce = kind 3 (λ a s. inPhase BLACK onePass s)
+passesOnce = kind 3 (λ a s. inPhase blackTag onePass s)
 
 -- [Mistakes 3]
 abbrev blackensTarget : Step → State → Outcome
@@ -141,7 +141,7 @@ appendsLast i s = pick (eqb i (s .rec .last))
     (did (Appended i) (append s i) (afterAppend (withLast (s .rec) i) i)) (collect s)
 
 abbrev missesLast : Step → State → Outcome
-missesLast = kind 3 (λ a s. inPhase APPEND appendsLast s)
+missesLast = kind 3 (λ a s. inPhase appendTag appendsLast s)
 
 -- a record test that asks only for what is given
 abbrev asks : (Record → Bool) → Step → State → Outcome

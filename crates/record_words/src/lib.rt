@@ -102,7 +102,14 @@ pub fn words_of(x: Record) -> [u32; WORDS]
     let p = x.phase;
     let o = x.owed;
     let tag = rules::tag(p);
-    laid_out(x, tag, rules::position(p), rules::second(p), owes(o), owed(o))
+    laid_out(
+        x,
+        tag,
+        rules::position(p),
+        rules::second(p),
+        owes(o),
+        owed(o),
+    )
 }
 
 // Whether four numbers are at most top.

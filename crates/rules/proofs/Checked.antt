@@ -10,7 +10,7 @@ use borrow.Author.Tests.{ltb-true, leb-true, eqb-true}
 use Rattle.base.specs.Choice.{every, pick}
 use Rattle.base.proofs.Tests.{each, facts, split, tests}
 use Rattle.rules.specs.Table.{mostNodes}
-use Rattle.rules.specs.Phases.{SCAN, hasSecond}
+use Rattle.rules.specs.Phases.{scanTag, hasSecond}
 use Rattle.rules.specs.Check.{sizeOk, positionOk, secondOk, phaseOk, owedOk, lastOk, bound}
 use Rattle.rules.specs.Check.{cycleOk, toldOk, countsOk, recordOk, checkOf}
 use Rattle.rules.specs.Facts.{Checked, Tells, Inside, Limited, InRange, Owable}
@@ -58,7 +58,7 @@ second-of m (suc (suc tag)) k e = tt
 second-high : (m tag k : ℕ) → secondOk m tag k ≡ true → (hasSecond tag ≡ false → k ≡ 0) → k ≤ m
 unfolding secondOk
 second-high m tag k e z =
-    split (λ (b : Bool). b ≡ true → k ≤ m) (eqb tag SCAN) _ _
+    split (λ (b : Bool). b ≡ true → k ≤ m) (eqb tag scanTag) _ _
     (λ q h. let f = each _ (sym h) in omega facts) (λ q h. omega (arith, z q)) e
 
 inside-of : (m r : ℕ) (p : Phase) → phaseOk m r p ≡ true → InRange m r p

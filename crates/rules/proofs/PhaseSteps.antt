@@ -12,7 +12,7 @@ use Rattle.base.specs.Choice.{pick, every}
 use Rattle.base.proofs.Tests.{split, le-yes, lt-yes, eq-no, pick-no, every-skip, every-last}
 use Rattle.rules.specs.Table.{State, Outcome, did, unless, white, black, withColour}
 use Rattle.rules.specs.Table.{shade}
-use Rattle.rules.specs.Phases.{ROOTS, tagOf, position, second, hasSecond}
+use Rattle.rules.specs.Phases.{rootsTag, tagOf, position, second, hasSecond}
 use Rattle.rules.specs.Records.{withLast, moved, marked, next, rescan, afterAppend}
 use Rattle.rules.specs.Check.{positionOk, secondOk, phaseOk, check}
 use Rattle.rules.specs.Facts.{InRange}
@@ -36,11 +36,11 @@ pub roots-test : (m r i : ℕ) → leb i (r + 1) ≡ phaseOk m r (Roots i)
 unfolding phaseOk positionOk secondOk pick
 roots-test m r i = only-first _ _ _ refl refl
 
-pub node-test : (m r : ℕ) (p : Phase) → ROOTS < tagOf p → hasSecond (tagOf p) ≡ false
+pub node-test : (m r : ℕ) (p : Phase) → rootsTag < tagOf p → hasSecond (tagOf p) ≡ false
     → ltb (position p) m ≡ phaseOk m r p
 unfolding phaseOk positionOk secondOk
 node-test m r p t e =
-    only-first _ _ _ (pick-no _ _ _ _ (eq-no (tagOf p) ROOTS (λ z. omega arith)) refl)
+    only-first _ _ _ (pick-no _ _ _ _ (eq-no (tagOf p) rootsTag (λ z. omega arith)) refl)
     (pick-no _ _ _ _ (sym e) refl)
 
 -- what passes it
@@ -48,14 +48,14 @@ pub roots-ok : (m r i : ℕ) → i ≤ r + 1 → true ≡ phaseOk m r (Roots i)
 roots-ok m r i h = le-yes _ _ h ∙ roots-test m r i
 
 -- by its position and its second number
-both-ok : (m r : ℕ) (p : Phase) → ROOTS < tagOf p → position p < m
+both-ok : (m r : ℕ) (p : Phase) → rootsTag < tagOf p → position p < m
     → true ≡ secondOk m (tagOf p) (second p) → true ≡ phaseOk m r p
 unfolding phaseOk positionOk
 both-ok m r p t h k =
-    every-skip _ _ _ (pick-no _ _ _ _ (eq-no (tagOf p) ROOTS (λ z. omega arith)) (lt-yes _ _ h))
+    every-skip _ _ _ (pick-no _ _ _ _ (eq-no (tagOf p) rootsTag (λ z. omega arith)) (lt-yes _ _ h))
     (every-last _ _ k)
 
-pub node-ok : (m r : ℕ) (p : Phase) → ROOTS < tagOf p → hasSecond (tagOf p) ≡ false
+pub node-ok : (m r : ℕ) (p : Phase) → rootsTag < tagOf p → hasSecond (tagOf p) ≡ false
     → position p < m → true ≡ phaseOk m r p
 node-ok m r p t e h = lt-yes _ _ h ∙ node-test m r p t e
 

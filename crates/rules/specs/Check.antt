@@ -6,7 +6,7 @@ use mathlib.Core.List.{List, [], _∷_, _++_, map}
 use lib.ListN.{length}
 use lib.Dec.{ltb, leb, eqb}
 use Rattle.rules.specs.Table.{State, FREE, mostNodes, mostSlots}
-use Rattle.rules.specs.Phases.{ROOTS, SCAN, tagOf, position, second}
+use Rattle.rules.specs.Phases.{rootsTag, scanTag, tagOf, position, second}
 use Rattle.rules.specs.declared.Record.{Record}
 use Rattle.rules.specs.declared.Phase.{Phase}
 use Rattle.rules.specs.declared.Owed.{Owed}
@@ -21,11 +21,11 @@ sizeOk m r edges colours =
 
 -- [Record 3] a position of Roots is not above R + 1; every other one is below M
 unfoldable pub positionOk : ℕ → ℕ → ℕ → ℕ → Bool
-positionOk m r tag i = pick (eqb tag ROOTS) (leb i (r + 1)) (ltb i m)
+positionOk m r tag i = pick (eqb tag rootsTag) (leb i (r + 1)) (ltb i m)
 
 -- [Record 3] Scan's k is not 0 and not above M
 unfoldable pub secondOk : ℕ → ℕ → ℕ → Bool
-secondOk m tag k = pick (eqb tag SCAN) (every (leb 1 k ∷ leb k m ∷ [])) true
+secondOk m tag k = pick (eqb tag scanTag) (every (leb 1 k ∷ leb k m ∷ [])) true
 
 unfoldable pub phaseOk : ℕ → ℕ → Phase → Bool
 phaseOk m r p =

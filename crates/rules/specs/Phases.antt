@@ -8,36 +8,36 @@ use Rattle.rules.specs.declared.Phase.{Phase}
 use Rattle.rules.specs.declared.Phase.the-variants.{Roots, Scan, Left, Right, Black, Append}
 
 -- [C 2] the number of each phase
-abbrev pub ROOTS : ℕ
-ROOTS = 0
+abbrev pub rootsTag : ℕ
+rootsTag = 0
 
-abbrev pub SCAN : ℕ
-SCAN = 1
+abbrev pub scanTag : ℕ
+scanTag = 1
 
-abbrev pub LEFT : ℕ
-LEFT = 2
+abbrev pub leftTag : ℕ
+leftTag = 2
 
-abbrev pub RIGHT : ℕ
-RIGHT = 3
+abbrev pub rightTag : ℕ
+rightTag = 3
 
-abbrev pub BLACK : ℕ
-BLACK = 4
+abbrev pub blackTag : ℕ
+blackTag = 4
 
-abbrev pub APPEND : ℕ
-APPEND = 5
+abbrev pub appendTag : ℕ
+appendTag = 5
 
 -- the largest of them
 abbrev pub mostTag : ℕ
-mostTag = APPEND
+mostTag = appendTag
 
 -- which phase it is
 abbrev pub tagOf : Phase → ℕ
-tagOf (Roots i) = ROOTS
-tagOf (Scan i k) = SCAN
-tagOf (Left i) = LEFT
-tagOf (Right i) = RIGHT
-tagOf (Black i) = BLACK
-tagOf (Append i) = APPEND
+tagOf (Roots i) = rootsTag
+tagOf (Scan i k) = scanTag
+tagOf (Left i) = leftTag
+tagOf (Right i) = rightTag
+tagOf (Black i) = blackTag
+tagOf (Append i) = appendTag
 
 -- its position: its i
 abbrev pub position : Phase → ℕ
@@ -59,13 +59,13 @@ second (Append i) = 0
 
 -- the phases that have a second number
 abbrev pub hasSecond : ℕ → Bool
-hasSecond tag = eqb tag SCAN
+hasSecond tag = eqb tag scanTag
 
 -- the phase of three numbers
 unfoldable pub phaseOf : ℕ → ℕ → ℕ → Phase
 phaseOf tag i k =
-    pick (eqb tag ROOTS) (Roots i)
-    (pick (eqb tag SCAN) (Scan i k)
-    (pick (eqb tag LEFT) (Left i)
-    (pick (eqb tag RIGHT) (Right i)
-    (pick (eqb tag BLACK) (Black i) (Append i)))))
+    pick (eqb tag rootsTag) (Roots i)
+    (pick (eqb tag scanTag) (Scan i k)
+    (pick (eqb tag leftTag) (Left i)
+    (pick (eqb tag rightTag) (Right i)
+    (pick (eqb tag blackTag) (Black i) (Append i)))))

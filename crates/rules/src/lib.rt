@@ -26,17 +26,17 @@ pub const MOST_TURNS: u32 = 12;
 const MOST_CYCLES: u32 = 4294967295;
 
 // [C 2] The number of each phase, and the largest of them.
-const ROOTS: u32 = 0;
+const ROOTS_TAG: u32 = 0;
 
-const SCAN: u32 = 1;
+const SCAN_TAG: u32 = 1;
 
-const LEFT: u32 = 2;
+const LEFT_TAG: u32 = 2;
 
-const RIGHT: u32 = 3;
+const RIGHT_TAG: u32 = 3;
 
-const BLACK: u32 = 4;
+const BLACK_TAG: u32 = 4;
 
-const APPEND: u32 = 5;
+const APPEND_TAG: u32 = 5;
 
 pub const MOST_TAG: u32 = 5;
 
@@ -169,12 +169,12 @@ pub fn tag(phase: Phase) -> u32
     ensures { λ n. ⌜ n ≡ tagOf phase ⌝ }
 {
     match phase {
-        Phase::Roots(_) => ROOTS,
-        Phase::Scan(_, _) => SCAN,
-        Phase::Left(_) => LEFT,
-        Phase::Right(_) => RIGHT,
-        Phase::Black(_) => BLACK,
-        Phase::Append(_) => APPEND,
+        Phase::Roots(_) => ROOTS_TAG,
+        Phase::Scan(_, _) => SCAN_TAG,
+        Phase::Left(_) => LEFT_TAG,
+        Phase::Right(_) => RIGHT_TAG,
+        Phase::Black(_) => BLACK_TAG,
+        Phase::Append(_) => APPEND_TAG,
     }
 }
 
@@ -210,26 +210,26 @@ pub fn second(phase: Phase) -> u16
 pub fn has_second(tag: u32) -> bool
     ensures { λ has. ⌜ has ≡ hasSecond tag ⌝ }
 {
-    tag == SCAN
+    tag == SCAN_TAG
 }
 
 // The phase of three numbers.
 pub fn phase_of(tag: u32, i: u16, k: u16) -> Phase
     ensures { λ p. ⌜ p ≡ phaseOf tag i k ⌝ }
 {
-    if tag == ROOTS {
+    if tag == ROOTS_TAG {
         return Phase::Roots(i);
     }
-    if tag == SCAN {
+    if tag == SCAN_TAG {
         return Phase::Scan(i, k);
     }
-    if tag == LEFT {
+    if tag == LEFT_TAG {
         return Phase::Left(i);
     }
-    if tag == RIGHT {
+    if tag == RIGHT_TAG {
         return Phase::Right(i);
     }
-    if tag == BLACK {
+    if tag == BLACK_TAG {
         return Phase::Black(i);
     }
     Phase::Append(i)
