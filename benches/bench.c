@@ -42,7 +42,7 @@ static void free_list(uint32_t m, uint32_t from, int shuffled) {
     }
     left[1] = n ? order[0] : 0;
     for (uint32_t i = 0; i < n; i++) left[order[i]] = i + 1 < n ? order[i + 1] : 0;
-    start.last = n ? order[n - 1] : 1;
+    start.last = n ? order[n - 1] : 1, start.free = n;
 }
 
 /* The nodes 2..to-1 are in use: each edge leads to one of them. */

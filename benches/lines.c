@@ -103,6 +103,7 @@ static struct answer take(const struct place *p, int side) {
         shade_node(g);
     else
         rec.last = 1;
+    if (rec.free != 0) rec.free--;
     return done(TAKEN, f);
 }
 
@@ -119,7 +120,7 @@ static struct answer collect(uint32_t n) {
 static struct answer fresh(uint32_t m, uint32_t r) {
     if (m < 3 || m > MOST || r < 1 || r > 64 || r + 2 > m) return refuse(1, 0);
     table.lefts = table.rights = table.colours = m;
-    rec.m = m, rec.r = r, rec.last = 1, rec.phase = ROOTS;
+    rec.m = m, rec.r = r, rec.last = 1, rec.phase = ROOTS, rec.free = m - r - 2;
     for (uint16_t node = r + 2; node < m; node++) left[rec.last] = node, rec.last = node;
     return done(STARTED, rec.last);
 }

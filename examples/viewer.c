@@ -159,19 +159,18 @@ static unsigned draw(void) {
     return sum / PANES / 100;
 }
 
-/* The panel's figure, asked anew in each frame: the layers and tints that can be seen, and what
- * lies on the bench. */
+/* The panel's figures, asked anew in each frame. In use are the layers and tints that can be seen,
+ * and what lies on the bench. */
 static unsigned count_in_use(void) {
     jenturik_told a = jenturik_in_use(TABLE);
     if (a.code != JENTURIK_DONE) stop("in_use", a.code, a.node);
     return a.node;
 }
 
-/* The free nodes: a chain by left edges from node 1. */
 static unsigned count_free(void) {
-    unsigned n = 0;
-    for (unsigned node = left[1]; node != 0; node = left[node]) n++;
-    return n;
+    jenturik_told a = jenturik_free_count(TABLE);
+    if (a.code != JENTURIK_DONE) stop("free_count", a.code, a.node);
+    return a.node;
 }
 
 int main(void) {
@@ -189,12 +188,12 @@ int main(void) {
         edit(second >= 5 && second <= 8 ? 30 : 3);
         jenturik_last steps = jenturik_collect_many(TABLE, BUDGET);
         if (steps.code != JENTURIK_DONE) stop("collect_many", steps.code, steps.node);
-        unsigned light = draw(), used = count_in_use();
+        unsigned light = draw(), used = count_in_use(), unused = count_free();
         if (frame % FRAMES == 0)
             printf("second %2d: frame %3d, %3u in use, %3u free, %3u cycles, %4u taken, %3u "
                    "refused, light %2u%%\n",
-                   second, frame, used, count_free(), (unsigned)words[JENTURIK_CYCLES], taken,
-                   refused, light);
+                   second, frame, used, unused, (unsigned)words[JENTURIK_CYCLES], taken, refused,
+                   light);
     }
     return 0;
 }

@@ -11,7 +11,8 @@
  * graph with jenturik_take and jenturik_link; call jenturik_shade after each link. Spend some
  * collector steps each frame (jenturik_collect_many).
  * The collector finds the nodes that no slot leads to, and makes them free. How many nodes slots
- * lead to is told by jenturik_in_use. examples/viewer.c is such a program.
+ * lead to is told by jenturik_in_use, how many are free by jenturik_free_count. examples/viewer.c
+ * is such a program.
  *
  * What the caller keeps
  *
@@ -99,7 +100,8 @@ enum {
                                            the slots and the free nodes are counted too, and what
                                            became garbage since. For the nodes in use there is
                                            jenturik_in_use */
-    JENTURIK_USED = 13,                 /* the words from here on are not used yet, and are 0 */
+    JENTURIK_FREE_COUNT = 13,           /* how many nodes are free */
+    JENTURIK_USED = 14,                 /* the words from here on are not used yet, and are 0 */
     JENTURIK_WORDS = 24                 /* how many there are */
 };
 
@@ -116,7 +118,7 @@ enum {
     JENTURIK_WHITENED = 8,   /* the collector: made a black node white; it is kept in this cycle */
     JENTURIK_APPENDED = 9,   /* the collector: appended a white node to the free list: its
                                 number may be taken again */
-    JENTURIK_COUNTED = 10    /* in use: in place of the node the number of nodes in use */
+    JENTURIK_COUNTED = 10    /* in use, free count: in place of the node the number of nodes */
 };
 
 /* Codes: why a call was refused. */
@@ -143,8 +145,8 @@ enum {
 };
 
 /* An answer: what was done, the code, the node, and how many colours were changed: 0 to 2, and 0
- * from fresh, load and in use. A refusal's node is 0, but for codes 7, 11, 12 and 13. If nodes were
- * counted, the number stands in place of the node. */
+ * from fresh, load, in use and free count. A refusal's node is 0, but for codes 7, 11, 12 and 13.
+ * If nodes were counted, the number stands in place of the node. */
 typedef struct {
     uint32_t what, code, node, changed;
 } jenturik_told;
@@ -185,11 +187,11 @@ jenturik_told jenturik_fresh(uint16_t *left, size_t lefts, uint16_t *right, size
                              uint32_t nodes, uint32_t slots);
 
 /* Makes a table of `nodes` nodes and `slots` slots with the edges of two lists of `nodes` entries:
- * node n's left edge is given_left[n]. Every node is white, no shade is owed, the counts are 0. The
- * free nodes are those that FREE leads to along the left edges; what neither FREE nor a slot leads
- * to is garbage, and may have any good edges. Answers the last free node. Writes all three arrays
- * and the words; the lists are only read, and overlap none of these. On the stack it keeps arrays
- * of 44 KiB.
+ * node n's left edge is given_left[n]. Every node is white, no shade is owed, and the counts are 0,
+ * except for that of the free nodes. These are the nodes that FREE leads to along the left edges;
+ * what neither FREE nor a slot leads to is garbage, and may have any good edges. Answers the last
+ * free node. Writes all three arrays and the words; the lists are only read, and overlap none of
+ * these. On the stack it keeps arrays of 44 KiB.
  * If it is refused (1, 11, 12, 13), the arrays stay as they are and the words become all 0, as with
  * jenturik_fresh. */
 jenturik_told jenturik_load(uint16_t *left, size_t lefts, uint16_t *right, size_t rights,
@@ -214,6 +216,17 @@ jenturik_told jenturik_look(const uint16_t *left, size_t lefts, const uint16_t *
 jenturik_told jenturik_in_use(const uint16_t *left, size_t lefts, const uint16_t *right,
                               size_t rights, const uint8_t *colour, size_t colours,
                               const uint32_t words[JENTURIK_WORDS]);
+
+/* Answers how many nodes are free: JENTURIK_COUNTED and the number, in place of the node. It is the
+ * number in the words (JENTURIK_FREE_COUNT), which the calls keep. So no list is walked, and a
+ * panel may ask in each frame: its time does not grow with M. In every run from a fresh or loaded
+ * table it is the length of the free list. Edges and colours are not read: in a damaged table it is
+ * what the words say. Writes nothing. Refused with 1 and 2 only. Like every other call it answers 2
+ * if the number is above M - R - 2, if it is 0 and last is not 1, and if last is 1 and it is
+ * not 0. */
+jenturik_told jenturik_free_count(const uint16_t *left, size_t lefts, const uint16_t *right,
+                                  size_t rights, const uint8_t *colour, size_t colours,
+                                  const uint32_t words[JENTURIK_WORDS]);
 
 /* Points an edge of the node at the source place (slot, count, word), on this side, to the node at
  * the target place (toslot, tocount, toword). Answers the target, whose shade is then owed: call

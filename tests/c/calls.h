@@ -8,6 +8,7 @@
 enum {
     LOOK,
     IN_USE,
+    FREE_COUNT,
     LINK,
     SHADE,
     TAKE,
@@ -22,6 +23,7 @@ enum {
 
 static const char *const call_names[CALLS] = {"look",
                                               "in_use",
+                                              "free_count",
                                               "link",
                                               "shade",
                                               "take",
@@ -69,6 +71,8 @@ static inline answer call(lent *t, int which) {
         return of_told(jenturik_look(LENT(t), 0, 0, 0));
     case IN_USE:
         return of_told(ask(t));
+    case FREE_COUNT:
+        return of_told(ask_free(t));
     case LINK:
         return of_told(jenturik_link(LENT(t), 0, 0, 0, 0, 0, 0, 0));
     case SHADE:

@@ -1,7 +1,7 @@
-/* The batch against single steps, and both against plain C, and In use against plain C: random
-   tables, damaged ones, invented records, wrong lengths. The colours changed are counted by
-   comparing, at each single step of either. diff RUNS: as many runs; says how many steps were made,
-   how many colours changed and which codes came, and ends with 1 at the first difference. */
+/* The batch against single steps, and both against plain C, and In use and Free count against plain
+   C: random tables, damaged ones, invented records, wrong lengths. The colours changed are counted
+   by comparing, at each single step of either. diff RUNS: as many runs; says how many steps were
+   made, how many colours changed and which codes came, and ends with 1 at the first difference. */
 #include "colours.h"
 #include "library.h"
 #include <stdio.h>
@@ -21,7 +21,8 @@ struct place {
 static struct place begun, batch, steps, plain;
 static struct record x;
 static struct table t;
-static uint8_t before[MOST]; /* the colours before a step */
+static uint8_t before[MOST];                           /* the colours before a step */
+static uint64_t codes[11], in_use[11], free_count[11]; /* how often each came */
 static uint64_t seed = 88172645463325252u;
 
 static uint32_t below(uint32_t n) {
@@ -62,6 +63,21 @@ static void damage(uint32_t m) {
     }
 }
 
+/* A free count that suits last, often such that Append soon passes its limit. */
+static void random_free(uint32_t most) {
+    if (x.last == 1)
+        x.free = 0;
+    else
+        x.free = one_in(2) ? 1 + below(most) : most - below(most < 4 ? most : 4);
+}
+
+/* As a start would be, with nothing free: so that a run can be long, and garbage is appended. */
+static void begin(uint32_t m) {
+    x.phase = ROOTS, x.i = 0, x.last = 1, x.free = 0, x.steps = 0, x.blackened = 0;
+    begun.left[0] = begun.right[0] = begun.left[1] = begun.right[1] = 0;
+    memset(begun.colour, 0, m);
+}
+
 /* A record that passes, and now and then one that does not. */
 static void random_record(uint32_t m) {
     uint32_t b;
@@ -77,8 +93,9 @@ static void random_record(uint32_t m) {
     x.cycles = one_in(9) ? UINT32_MAX - below(2) : below(100);
     x.took = below(b + 1), x.blackened = one_in(2) ? m - below(2) : below(m + 1),
     x.lastblackened = below(m + 1);
+    random_free(m - x.r - 2);
     if (!one_in(12)) return;
-    switch (below(10)) {
+    switch (below(12)) {
     case 0:
         x.m = below(5000);
         break;
@@ -108,6 +125,12 @@ static void random_record(uint32_t m) {
         break;
     case 9:
         x.lastblackened = m + below(3);
+        break;
+    case 10:
+        x.free = x.free == 0 ? 1 + below(m) : 0;
+        break;
+    case 11:
+        x.free = m - x.r - 1 + below(3);
         break;
     }
 }
@@ -153,11 +176,17 @@ static int by_steps(size_t n) {
     return told;
 }
 
-/* Whether In use differs from plain C on what is lent; counts its codes. */
-static int in_use_differs(const uint32_t *words, uint64_t *codes) {
-    struct answer a = library_in_use(&t, words), b = plain_in_use(&t, words);
-    codes[a.code]++;
+/* Whether an answer of the library is another one than plain C's; counts its code. */
+static int unlike(struct answer a, struct answer b, uint64_t *came) {
+    came[a.code]++;
     return memcmp(&a, &b, sizeof a);
+}
+
+/* The call that counts nodes otherwise than plain C on what is lent, if one does. */
+static const char *miscounts(const uint32_t *w) {
+    if (unlike(library_in_use(&t, w), plain_in_use(&t, w), in_use)) return "In use";
+    if (unlike(library_free_count(&t, w), plain_free_count(&t, w), free_count)) return "Free count";
+    return NULL;
 }
 
 static int differ(const struct place *a, const struct place *b) {
@@ -169,7 +198,7 @@ static int differ(const struct place *a, const struct place *b) {
 }
 
 int main(int argc, char **argv) {
-    static uint64_t codes[11], in_use[11];
+    const char *call;
     uint64_t runs = argc > 1 ? strtoull(argv[1], 0, 10) : 0, made = 0, changed = 0;
     if (!runs) return fprintf(stderr, "diff RUNS\n"), 2;
     for (uint64_t k = 0; k < runs; k++) {
@@ -178,13 +207,14 @@ int main(int argc, char **argv) {
         if (n > 60000) n = 60000;
         memset(&begun, 0, sizeof begun);
         random_record(m), random_table(m);
+        if (one_in(4)) begin(m);
         for (uint32_t d = one_in(3) ? below(3) : 0; d > 0; d--) damage(m);
         t.lefts = t.rights = t.colours = m;
         if (one_in(60)) *(size_t *[]){&t.lefts, &t.rights, &t.colours}[below(3)] = below(m + 3);
         words_of(begun.words, &x);
         lend(&batch);
-        if (in_use_differs(batch.words, in_use))
-            return printf("run %llu: In use differs: M = %u\n", (unsigned long long)k, m), 1;
+        if ((call = miscounts(batch.words)) != NULL)
+            return printf("run %llu: %s differs: M = %u\n", (unsigned long long)k, call, m), 1;
         by_batch(n);
         lend(&steps);
         if (!by_steps(n))
@@ -196,10 +226,11 @@ int main(int argc, char **argv) {
         made += batch.done, changed += batch.changed, codes[batch.answer.code]++;
     }
     printf("%llu runs, %llu steps, %llu colours changed, no difference; code 0: %llu, 1: %llu, "
-           "2: %llu, 7: %llu; In use 0: %llu, 7: %llu\n",
+           "2: %llu, 7: %llu; In use 0: %llu, 7: %llu; Free count 0: %llu, 2: %llu\n",
            (unsigned long long)runs, (unsigned long long)made, (unsigned long long)changed,
            (unsigned long long)codes[0], (unsigned long long)codes[1], (unsigned long long)codes[2],
            (unsigned long long)codes[7], (unsigned long long)in_use[0],
-           (unsigned long long)in_use[7]);
+           (unsigned long long)in_use[7], (unsigned long long)free_count[0],
+           (unsigned long long)free_count[2]);
     return 0;
 }

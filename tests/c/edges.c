@@ -6,40 +6,12 @@
  * The last line is 'N passed, M failed'. */
 #define _DEFAULT_SOURCE
 #include "lists.h"
-#include "trial.h"
+#include "refusing.h"
 
 enum { M = 9, R = 2, BIG = 65536 };
 
-static table sound, bad, other;
+static table sound, other;
 static lists edges;
-
-/* The table in the given phase, at a position of it, with node 2 owed or nothing. */
-static void set_phase(table *s, uint32_t phase, uint32_t owes) {
-    s->words[JENTURIK_PHASE] = phase;
-    s->words[JENTURIK_I] = 1;
-    s->words[JENTURIK_K] = phase == 1 ? 3 : 0;
-    s->words[JENTURIK_OWES] = owes;
-    s->words[JENTURIK_OWED] = 2 * owes;
-}
-
-/* Whether a call on the bad table is refused with the code, tells nothing else and changes nothing,
- * whichever page the arrays lie against. */
-static int refuses(int which, uint32_t code) {
-    int good = 1;
-    for (int high = 0; high < 2; high++) {
-        lend(&t, &bad, high);
-        answer a = call(&t, which);
-        take_back(&t, &after);
-        good = good && a.code == code && a.what == 0 && a.node == 0 && a.done == 0 &&
-               a.changed == 0 && same(&bad, &after);
-    }
-    return good;
-}
-
-static void all_refuse(uint32_t code, const char *why, long n) {
-    for (int which = 0; which < CALLS; which++)
-        check(refuses(which, code), why, call_names[which], n);
-}
 
 static void nulls(void) {
     for (int which = 0; which < 4; which++) {
@@ -84,8 +56,9 @@ static void too_wide(int word) {
 
 static void words_of_phase(uint32_t phase, uint32_t owes) {
     static const int wide[] = {
-        JENTURIK_NODES, JENTURIK_SLOTS, JENTURIK_I,         JENTURIK_K,
-        JENTURIK_OWED,  JENTURIK_LAST,  JENTURIK_BLACKENED, JENTURIK_BLACKENED_LAST_CYCLE};
+        JENTURIK_NODES,     JENTURIK_SLOTS, JENTURIK_I,         JENTURIK_K,
+        JENTURIK_OWED,      JENTURIK_LAST,  JENTURIK_BLACKENED, JENTURIK_BLACKENED_LAST_CYCLE,
+        JENTURIK_FREE_COUNT};
     static const uint32_t no_phase[] = {6, 7, 256, BIG}, no_owes[] = {2, 256, 257, BIG, BIG + 1};
     bad = sound;
     set_phase(&bad, phase, owes);
@@ -122,6 +95,7 @@ static void numbers_of_phase(uint32_t phase) {
     check(jenturik_look(LENT(&t), 0, 0, 0).code == 0, "a record at its limits is accepted", "look",
           (long)phase);
     check(ask(&t).code == 0, "a record at its limits is accepted", "in_use", (long)phase);
+    check(ask_free(&t).code == 0, "a record at its limits is accepted", "free_count", (long)phase);
 }
 
 /* Whether words are a record's, by the header. */
@@ -223,8 +197,10 @@ static void load_refuses(uint32_t nodes, uint32_t slots, uint32_t code, uint32_t
     }
 }
 
-/* Accepted: the table is the lists', all white, and its record has this last and counts of 0. */
-static void load_accepts(uint32_t nodes, uint32_t slots, uint32_t last, const char *why) {
+/* Accepted: the table is the lists', all white, and its record has this last, this free count and
+ * other counts of 0. */
+static void load_accepts(uint32_t nodes, uint32_t slots, uint32_t last, uint32_t count,
+                         const char *why) {
     for (int high = 0; high < 2; high++) {
         lend_bad(high);
         jenturik_told a = load(&t, &edges, nodes, slots, high);
@@ -234,10 +210,11 @@ static void load_accepts(uint32_t nodes, uint32_t slots, uint32_t last, const ch
             good = good && after.left[i] == edges.left[i] && after.right[i] == edges.right[i] &&
                    after.colour[i] == 0;
         for (int word = 0; word < JENTURIK_WORDS; word++)
-            good = good && after.words[word] == (word == JENTURIK_NODES   ? nodes
-                                                 : word == JENTURIK_SLOTS ? slots
-                                                 : word == JENTURIK_LAST  ? last
-                                                                          : 0);
+            good = good && after.words[word] == (word == JENTURIK_NODES        ? nodes
+                                                 : word == JENTURIK_SLOTS      ? slots
+                                                 : word == JENTURIK_LAST       ? last
+                                                 : word == JENTURIK_FREE_COUNT ? count
+                                                                               : 0);
         check(good, why, "load", (long)last);
     }
 }
@@ -313,15 +290,16 @@ static void load_shared(void) {
 /* Accepted: what a run left, garbage with any good edges, an empty free list, M of 4,096. */
 static void load_accepted(void) {
     bad = sound, list(&sound);
-    load_accepts(M, R, sound.words[JENTURIK_LAST], "what a run left");
-    list(&other), load_accepts(M, R, M - 1, "a fresh table's edges");
-    set_edge(7, 0, 0), load_accepts(M, R, 7, "last is the end of the free list");
-    set_edge(8, 1, 4), load_accepts(M, R, 7, "garbage leads to a free node");
+    load_accepts(M, R, sound.words[JENTURIK_LAST], free_nodes(sound.left), "what a run left");
+    list(&other), load_accepts(M, R, M - 1, 5, "a fresh table's edges");
+    set_edge(7, 0, 0), load_accepts(M, R, 7, 4, "last is the end of the free list");
+    set_edge(8, 1, 4), load_accepts(M, R, 7, 4, "garbage leads to a free node");
+    set_edge(8, 0, 6), load_accepts(M, R, 7, 4, "garbage looks like a free list");
     set_edge(1, 0, 0), set_edge(2, 0, 5), set_edge(3, 1, 2);
-    load_accepts(M, R, 1, "no node is free");
-    make_fresh(&bad, 4096, 64), list(&bad), load_accepts(4096, 64, 4095, "4096 nodes");
+    load_accepts(M, R, 1, 0, "no node is free");
+    make_fresh(&bad, 4096, 64), list(&bad), load_accepts(4096, 64, 4095, 4030, "4096 nodes");
     bad.lefts = bad.rights = bad.colours = edges.lefts = edges.rights = 3;
-    memset(edges.left, 0, 12), load_accepts(3, 1, 1, "3 nodes");
+    memset(edges.left, 0, 12), load_accepts(3, 1, 1, 0, "3 nodes");
 }
 
 static void load_edges(void) {

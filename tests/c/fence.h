@@ -62,4 +62,10 @@ static inline void fence_forbid(const fence *f, int forbid) {
         fence_fail("a fence cannot be forbidden");
 }
 
+/* Forbids reading too; or allows all again. */
+static inline void fence_hide(const fence *f, int hide) {
+    if (mprotect(f->room, FENCE_ROOM, hide ? PROT_NONE : PROT_READ | PROT_WRITE) != 0)
+        fence_fail("a fence cannot be hidden");
+}
+
 #endif

@@ -20,6 +20,13 @@ static inline struct answer library_in_use(const struct table *t, const uint32_t
     return all;
 }
 
+static inline struct answer library_free_count(const struct table *t, const uint32_t *w) {
+    jenturik_told a =
+        jenturik_free_count(t->left, t->lefts, t->right, t->rights, t->colour, t->colours, w);
+    struct answer all = {a.what, a.code, a.node};
+    return all;
+}
+
 static inline void words_of(uint32_t *w, const struct record *x) {
     for (int i = JENTURIK_USED; i < JENTURIK_WORDS; i++) w[i] = 0;
     w[JENTURIK_NODES] = x->m, w[JENTURIK_SLOTS] = x->r;
@@ -27,6 +34,6 @@ static inline void words_of(uint32_t *w, const struct record *x) {
     w[JENTURIK_OWES] = x->owes, w[JENTURIK_OWED] = x->owes ? x->owed : 0;
     w[JENTURIK_LAST] = x->last, w[JENTURIK_STEPS] = x->steps, w[JENTURIK_CYCLES] = x->cycles;
     w[JENTURIK_TOOK] = x->took, w[JENTURIK_BLACKENED] = x->blackened;
-    w[JENTURIK_BLACKENED_LAST_CYCLE] = x->lastblackened;
+    w[JENTURIK_BLACKENED_LAST_CYCLE] = x->lastblackened, w[JENTURIK_FREE_COUNT] = x->free;
 }
 #endif

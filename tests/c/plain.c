@@ -9,6 +9,9 @@ static struct answer say(uint16_t kind, uint16_t code, uint16_t node) {
 
 static uint32_t bound(uint32_t m, uint32_t r) { return m * m + 5 * m + r + 2; }
 
+/* The most nodes that can be free. */
+static uint32_t most_free(const struct record *x) { return x->m - x->r - 2; }
+
 /* Codes 1 and 2. */
 int plain_check(const struct table *t, const struct record *x) {
     uint32_t m = x->m, r = x->r, b = bound(m, r);
@@ -19,6 +22,7 @@ int plain_check(const struct table *t, const struct record *x) {
     if (x->owes && (x->owed == 1 || x->owed >= m)) return 2;
     if (x->last != 1 && (x->last < r + 2 || x->last >= m)) return 2;
     if (x->blackened > m || x->lastblackened > m || x->steps >= b || x->took > b) return 2;
+    if (x->free > most_free(x) || (x->free == 0) != (x->last == 1)) return 2;
     return 0;
 }
 
@@ -102,6 +106,7 @@ static inline struct answer append(const struct table *t, struct record *x) {
     t->right[i] = 0;
     t->left[x->last] = i;
     x->last = i;
+    x->free++;
     after_append(x);
     return say(APPENDED, 0, i);
 }
@@ -140,7 +145,7 @@ size_t plain_many(const struct table *t, struct record *x, size_t n, struct answ
     uint32_t b = bound(x->m, x->r);
     size_t done = 0;
     while (done < n) {
-        if (x->steps >= b || x->blackened > x->m) {
+        if (x->steps >= b || x->blackened > x->m || x->free > most_free(x)) {
             *last = say(REFUSED, 2, 0);
             return done;
         }
@@ -173,9 +178,9 @@ static uint32_t first_bad(const uint32_t *lefts, const uint32_t *rights, uint32_
     return n;
 }
 
-/* Code 12: walks the free list and notes its nodes. */
+/* Code 12: walks the free list, notes its nodes and counts them. */
 static struct answer walk(const uint32_t *lefts, const uint32_t *rights, uint32_t r,
-                          uint8_t *is_free) {
+                          uint8_t *is_free, uint16_t *count) {
     uint32_t n = 1;
     for (;;) {
         uint32_t next = lefts[n];
@@ -183,6 +188,7 @@ static struct answer walk(const uint32_t *lefts, const uint32_t *rights, uint32_
         if (next == 0) return say(STARTED, 0, n);
         if (next < r + 2 || is_free[next]) return say(REFUSED, 12, n);
         is_free[next] = 1;
+        ++*count;
         n = next;
     }
 }
@@ -207,12 +213,13 @@ static uint32_t first_shared(const uint8_t *is_free, const uint8_t *reached, uin
     return n;
 }
 
-static struct answer judge(const uint32_t *lefts, const uint32_t *rights, uint32_t m, uint32_t r) {
+static struct answer judge(const uint32_t *lefts, const uint32_t *rights, uint32_t m, uint32_t r,
+                           uint16_t *count) {
     uint8_t is_free[NODES], reached[NODES];
     uint32_t n = first_bad(lefts, rights, m);
     if (n < m) return say(REFUSED, 11, n);
     memset(is_free, 0, m);
-    struct answer a = walk(lefts, rights, r, is_free);
+    struct answer a = walk(lefts, rights, r, is_free, count);
     if (a.code) return a;
     memset(reached, 0, m);
     mark(lefts, rights, r, reached);
@@ -227,11 +234,12 @@ struct answer plain_load(const struct table *t, struct record *x, const uint32_t
     if (m < 3 || m > NODES || r < 1 || r > 64 || r + 2 > m) return say(REFUSED, 1, 0);
     if (t->lefts != m || t->rights != m || t->colours != m) return say(REFUSED, 1, 0);
     if (given_lefts != m || given_rights != m) return say(REFUSED, 1, 0);
-    struct answer a = judge(lefts, rights, m, r);
+    uint16_t count = 0;
+    struct answer a = judge(lefts, rights, m, r, &count);
     if (a.code) return a;
     for (uint32_t n = 0; n < m; n++) t->left[n] = lefts[n], t->right[n] = rights[n];
     memset(t->colour, 0, m);
-    x->m = m, x->r = r, x->last = a.node;
+    x->m = m, x->r = r, x->last = a.node, x->free = count;
     return a;
 }
 
@@ -239,7 +247,7 @@ struct answer plain_load(const struct table *t, struct record *x, const uint32_t
 static int read_record(struct record *x, const uint32_t *w) {
     uint32_t wide = w[JENTURIK_NODES] | w[JENTURIK_SLOTS] | w[JENTURIK_I] | w[JENTURIK_K] |
                     w[JENTURIK_OWED] | w[JENTURIK_LAST] | w[JENTURIK_BLACKENED] |
-                    w[JENTURIK_BLACKENED_LAST_CYCLE],
+                    w[JENTURIK_BLACKENED_LAST_CYCLE] | w[JENTURIK_FREE_COUNT],
              unused = 0;
     for (int i = JENTURIK_USED; i < JENTURIK_WORDS; i++) unused |= w[i];
     if (wide > 65535 || unused != 0 || w[JENTURIK_PHASE] > APPEND || w[JENTURIK_OWES] > 1) return 0;
@@ -250,6 +258,7 @@ static int read_record(struct record *x, const uint32_t *w) {
     x->owed = w[JENTURIK_OWED], x->last = w[JENTURIK_LAST], x->steps = w[JENTURIK_STEPS];
     x->cycles = w[JENTURIK_CYCLES], x->took = w[JENTURIK_TOOK];
     x->blackened = w[JENTURIK_BLACKENED], x->lastblackened = w[JENTURIK_BLACKENED_LAST_CYCLE];
+    x->free = w[JENTURIK_FREE_COUNT];
     return 1;
 }
 
@@ -277,10 +286,19 @@ static struct answer count(const uint16_t *left, const uint16_t *right, uint32_t
     return hurt < m ? say(REFUSED, 7, hurt) : say(COUNTED, 0, tail - r);
 }
 
+/* The record of the words, and codes 1 and 2; words that form no record are code 2. */
+static int asked(const struct table *t, struct record *x, const uint32_t *words) {
+    return read_record(x, words) ? plain_check(t, x) : 2;
+}
+
 struct answer plain_in_use(const struct table *t, const uint32_t *words) {
     struct record x;
-    if (!read_record(&x, words)) return say(REFUSED, 2, 0);
-    int code = plain_check(t, &x);
-    if (code) return say(REFUSED, code, 0);
-    return count(t->left, t->right, x.m, x.r);
+    int code = asked(t, &x, words);
+    return code ? say(REFUSED, code, 0) : count(t->left, t->right, x.m, x.r);
+}
+
+struct answer plain_free_count(const struct table *t, const uint32_t *words) {
+    struct record x;
+    int code = asked(t, &x, words);
+    return code ? say(REFUSED, code, 0) : say(COUNTED, 0, x.free);
 }

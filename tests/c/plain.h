@@ -1,5 +1,5 @@
-/* The collector in plain C, to measure against: one step, many steps with memchr, Load and In
-   use. */
+/* The collector in plain C, to measure against: one step, many steps with memchr, Load, In use and
+   Free count. */
 #ifndef PLAIN_H
 #define PLAIN_H
 #include <stddef.h>
@@ -25,7 +25,7 @@ struct record {
     uint16_t owes, owed; /* whether a shade is owed, and for which node */
     uint16_t last;
     uint32_t steps, cycles, took;
-    uint16_t blackened, lastblackened;
+    uint16_t blackened, lastblackened, free;
 };
 
 struct answer {
@@ -44,5 +44,6 @@ struct answer plain_load(const struct table *t, struct record *x, const uint32_t
                          size_t given_lefts, const uint32_t *rights, size_t given_rights,
                          uint32_t m, uint32_t r);
 struct answer plain_in_use(const struct table *t, const uint32_t *words);
+struct answer plain_free_count(const struct table *t, const uint32_t *words);
 size_t plain_many(const struct table *t, struct record *x, size_t n, struct answer *last);
 #endif

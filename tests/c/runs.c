@@ -410,13 +410,6 @@ static void reading_only(void) {
     fence_forbid(&call_steps, 0);
 }
 
-/* The free nodes. */
-static uint32_t count_free(void) {
-    uint32_t n = 0;
-    for (uint32_t node = t.l[1]; node != 0; node = t.l[node]) n++;
-    return n;
-}
-
 /* In a run In use is never refused, and counts no free node [In use 4]. Where nothing is edited
  * from the end of a cycle to the end of the next marking, blackened last cycle is that number with
  * NIL, FREE, the slots' and the free nodes. */
@@ -427,11 +420,11 @@ static void in_use_along_runs(uint32_t tables) {
         make_sound(&start, m, r, below(12));
         lend(&t, &start, (int)(i % 2));
         jenturik_told a = ask(&t);
-        wrong += a.code != 0 || a.what != JENTURIK_COUNTED || a.node + count_free() + r + 2 > m;
+        wrong += a.code != 0 || a.what != JENTURIK_COUNTED || a.node + free_nodes(t.l) + r + 2 > m;
         jenturik_collect_many(LENT(&t), 3 * (size_t)bound);
         jenturik_told b = ask(&t);
         wrong += b.code != 0 || b.node != a.node;
-        quiet += t.w[JENTURIK_BLACKENED_LAST_CYCLE] != b.node + count_free() + r + 2;
+        quiet += t.w[JENTURIK_BLACKENED_LAST_CYCLE] != b.node + free_nodes(t.l) + r + 2;
         if (b.node > most) most = b.node;
     }
     check(wrong == 0, "nodes in use, free ones left out", "in_use", (long)wrong);

@@ -10,7 +10,7 @@
  *   others by jenturik_schedule, one by one.
  * - state --fresh: jenturik_fresh.
  * - state --load: jenturik_load.
- * - state --inuse: jenturik_in_use, which may write nothing.
+ * - state --inuse, state --free: jenturik_in_use, jenturik_free_count, which may write nothing.
  *
  * Lines have numbers of 64 bits, the library's have 32: a larger one becomes the largest. Both
  * refuse either where they read it; a record's number that does not fit its words would show as a
@@ -239,29 +239,34 @@ static void load_line(void) {
     put_state(&after);
 }
 
-static void in_use_line(void) {
+/* A call that counts nodes. */
+static void count_line(jenturik_told (*count)(const lent *)) {
     read_state();
     lend(&t, &given, high);
-    jenturik_told a = ask(&t);
+    jenturik_told a = count(&t);
     take_back(&t, &after);
     if (a.what != (a.code == 0 ? JENTURIK_COUNTED : JENTURIK_REFUSED))
-        fence_fail("in use tells that it did something else");
-    if (!same(&given, &after)) fence_fail("in use leaves another state");
-    if (a.changed != 0) fence_fail("in use tells colours that it changed");
+        fence_fail("a call that counts tells that it did something else");
+    if (!same(&given, &after)) fence_fail("a call that counts leaves another state");
+    if (a.changed != 0) fence_fail("a call that counts tells colours that it changed");
     put(a.code);
     put(a.node);
 }
 
+static void in_use_line(void) { count_line(ask); }
+
+static void free_line(void) { count_line(ask_free); }
+
 int main(int argc, char **argv) {
-    static const char *const names[] = {"--state", "--run",  "--many",
-                                        "--fresh", "--load", "--inuse"};
-    static void (*const modes[])(void) = {state_line, run_line,  many_line,
-                                          fresh_line, load_line, in_use_line};
+    static const char *const names[] = {"--state", "--run",   "--many", "--fresh",
+                                        "--load",  "--inuse", "--free"};
+    static void (*const modes[])(void) = {state_line, run_line,    many_line, fresh_line,
+                                          load_line,  in_use_line, free_line};
     enum { MODES = sizeof modes / sizeof *modes };
     size_t mode = 0;
     while (mode < MODES && (argc != 2 || strcmp(argv[1], names[mode]) != 0)) mode++;
     if (mode == MODES)
-        fence_fail("usage: state --state | --run | --many | --fresh | --load | --inuse");
+        fence_fail("usage: state --state | --run | --many | --fresh | --load | --inuse | --free");
     lent_open(&t);
     lists_open();
     fence_open(&order);

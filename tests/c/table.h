@@ -67,6 +67,13 @@ static inline int same(const table *a, const table *b) {
            memcmp(a->colour, b->colour, a->colours) == 0;
 }
 
+/* How many nodes are on the free list, walked. */
+static inline uint32_t free_nodes(const uint16_t *left) {
+    uint32_t n = 0;
+    for (uint32_t node = left[1]; node != 0 && n < MOST; node = left[node]) n++;
+    return n;
+}
+
 /* How many colours differ between a table before a call and after it. */
 static inline uint32_t changes(const table *before, const table *after) {
     static uint8_t colour[MOST];
@@ -85,6 +92,14 @@ static inline void lent_forbid(const lent *t, int forbid) {
 static inline jenturik_told ask(const lent *t) {
     lent_forbid(t, 1);
     jenturik_told a = jenturik_in_use(LENT(t));
+    lent_forbid(t, 0);
+    return a;
+}
+
+/* Free count, the same way. */
+static inline jenturik_told ask_free(const lent *t) {
+    lent_forbid(t, 1);
+    jenturik_told a = jenturik_free_count(LENT(t));
     lent_forbid(t, 0);
     return a;
 }

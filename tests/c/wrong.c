@@ -25,6 +25,7 @@ jenturik_told __real_jenturik_fresh(ARRAYS, uint32_t *words, uint32_t nodes, uin
 jenturik_told __real_jenturik_load(ARRAYS, uint32_t *words, LISTS, uint32_t nodes, uint32_t slots);
 jenturik_told __real_jenturik_look(READ_ARRAYS, const uint32_t *words, PLACE);
 jenturik_told __real_jenturik_in_use(READ_ARRAYS, const uint32_t *words);
+jenturik_told __real_jenturik_free_count(READ_ARRAYS, const uint32_t *words);
 jenturik_told __real_jenturik_link(EDGES_ARRAYS, uint32_t *words, PLACE, uint32_t side,
                                    uint32_t toslot, uint32_t tocount, uint32_t toword);
 jenturik_told __real_jenturik_shade(COLOUR_ARRAYS, uint32_t *words);
@@ -54,12 +55,33 @@ static jenturik_told count_wrongly(jenturik_told a) {
     return a;
 }
 
+/* The most nodes that can be free. */
+static uint32_t most_free(const uint32_t *words) {
+    return words[JENTURIK_NODES] - words[JENTURIK_SLOTS] - 2;
+}
+
+/* The words as a call judges them that overlooks a bad free count: a count that passes stands in
+ * its place. */
+static const uint32_t *overlooked(const uint32_t *words) {
+    static uint32_t other[JENTURIK_WORDS];
+    uint32_t *count = other + JENTURIK_FREE_COUNT, last = words[JENTURIK_LAST];
+    memcpy(other, words, sizeof other);
+    if (wrong(75) && *count == most_free(other) + 1 && last != 1) --*count; /* one too many */
+    if (wrong(76) && *count != 0 && last == 1) *count = 0; /* some, and last is 1 */
+    if (wrong(77) && *count == 0 && last != 1) *count = 1; /* 0, and last is not */
+    if (wrong(78)) *count &= 0xffff;                       /* the upper half */
+    return other;
+}
+
 jenturik_told __wrap_jenturik_fresh(ARRAYS, uint32_t *words, uint32_t nodes, uint32_t slots) {
     if (wrong(1)) slots &= 0xffff; /* takes the lower half of a number that is too large */
     keep(colour, colours);
     jenturik_told a = __real_jenturik_fresh(TABLE, nodes, slots);
     if (wrong(53)) a.changed = recoloured(before, colour, colours); /* a start counts */
     if (wrong(2) && a.code == 0) a.node = 0;                        /* tells no last free node */
+    if (wrong(79) && a.code == 0) words[JENTURIK_FREE_COUNT] = 0;   /* counts from 0 on */
+    if (wrong(80) && a.code == 0) words[JENTURIK_FREE_COUNT]++;     /* counts FREE too */
+    if (wrong(81) && a.code != 0) words[JENTURIK_FREE_COUNT] = nodes & 0xffff; /* though refused */
     return a;
 }
 
@@ -89,6 +111,10 @@ jenturik_told __wrap_jenturik_load(ARRAYS, uint32_t *words, LISTS, uint32_t node
     if (wrong(27) && a.code == 0) memcpy(colour, before, colours);           /* the colours stay */
     if (wrong(28) && a.code > 1) a.node = 0;                        /* a refusal's node is lost */
     if (wrong(54)) a.changed = recoloured(before, colour, colours); /* a start counts */
+    if (wrong(82) && a.code == 0 && a.node != 1)                    /* counts garbage as free */
+        words[JENTURIK_FREE_COUNT] = most_free(words);
+    if (wrong(83) && a.code == 0 && a.node != 1) words[JENTURIK_FREE_COUNT]++; /* and FREE */
+    if (wrong(84) && a.code > 1) words[JENTURIK_FREE_COUNT] = 1;               /* though refused */
     return a;
 }
 
@@ -96,6 +122,7 @@ jenturik_told __wrap_jenturik_look(READ_ARRAYS, const uint32_t *words, PLACE) {
     if (wrong(3) && colours != 0)
         ((volatile uint8_t *)(uintptr_t)colour)[0] =
             colour[0]; /* writes, though it changes nothing */
+    words = overlooked(words);
     return count_wrongly(__real_jenturik_look(TABLE, slot, count, word));
 }
 
@@ -172,9 +199,39 @@ jenturik_told __wrap_jenturik_in_use(READ_ARRAYS, const uint32_t *words) {
     return a;
 }
 
+/* The nodes from FREE on, as far as there are some. */
+static uint32_t walked(const uint16_t *left, uint32_t m) {
+    uint32_t n = 0;
+    for (uint32_t node = left[1]; node != 0 && node < m && n < m; node = left[node]) n++;
+    return n;
+}
+
+jenturik_told __wrap_jenturik_free_count(READ_ARRAYS, const uint32_t *words) {
+    uint32_t other[JENTURIK_WORDS] = {[JENTURIK_LAST] = 1}, m = words[JENTURIK_NODES];
+    jenturik_told a = __real_jenturik_free_count(TABLE);
+    memcpy(other, words, 2 * sizeof *other); /* M and R */
+    if (wrong(85) && a.code == 2)            /* ignores code 2 */
+        a = __real_jenturik_free_count(left, lefts, right, rights, colour, colours, other);
+    if (wrong(86) && a.code != 0)
+        a.node = words[JENTURIK_FREE_COUNT];                     /* the count, though refused */
+    if (wrong(87) && a.code == 0) a.node = walked(left, m);      /* walks the list */
+    if (wrong(88) && a.code == 0) a.node = words[JENTURIK_LAST]; /* answers last */
+    if (wrong(89)) a.node &= 0xff;                               /* 8 bits */
+    if (wrong(90) && a.code == 0) a.what = JENTURIK_NAMED;       /* tells another deed */
+    if (wrong(91) && a.code == 0) a.changed = a.node != 0;       /* tells a change */
+    if (wrong(92) && a.code == 0 && left[1] == 1) a.what = 0, a.code = 7; /* judges FREE's edge */
+    if (wrong(93)) /* writes, though it changes nothing */
+        ((volatile uint32_t *)(uintptr_t)words)[JENTURIK_FREE_COUNT] = words[JENTURIK_FREE_COUNT];
+    if (wrong(94) && a.code == 0) /* all that are not in use */
+        a.node = most_free(words) - __real_jenturik_in_use(TABLE).node;
+    return a;
+}
+
 jenturik_told __wrap_jenturik_link(EDGES_ARRAYS, uint32_t *words, PLACE, uint32_t side,
                                    uint32_t toslot, uint32_t tocount, uint32_t toword) {
     jenturik_told a = __real_jenturik_link(TABLE, slot, count, word, side, toslot, tocount, toword);
+    if (wrong(95) && a.code == 0 && words[JENTURIK_FREE_COUNT] > 1) /* a link takes one */
+        words[JENTURIK_FREE_COUNT]--;
     if (wrong(4) && a.code == 2) words[JENTURIK_OWES] = 0; /* mends the record that it refuses */
     if (wrong(5) && a.code == 0 && a.node == 0)
         words[JENTURIK_OWES] = 0; /* NIL owed taken for nothing owed */
@@ -192,8 +249,17 @@ jenturik_told __wrap_jenturik_shade(COLOUR_ARRAYS, uint32_t *words) {
 }
 
 jenturik_told __wrap_jenturik_take(ARRAYS, uint32_t *words, PLACE, uint32_t side) {
-    uint32_t last = words[JENTURIK_LAST];
+    uint32_t last = words[JENTURIK_LAST], had = words[JENTURIK_FREE_COUNT],
+             *free_count = words + JENTURIK_FREE_COUNT;
+    if (wrong(96) && had == 0 && last == 1 && lefts > 1) left[1] = 0; /* 9 by the count */
     jenturik_told a = __real_jenturik_take(TABLE, slot, count, word, side);
+    if (wrong(97) && a.code == 0) *free_count = had;               /* the count stays */
+    if (wrong(98) && a.code == 0 && had == 0) *free_count = 65535; /* 0 does not */
+    if (wrong(99) && a.code == 0 && words[JENTURIK_LAST] == 1) *free_count = 0;  /* goes by last */
+    if (wrong(100) && a.code == 0 && *free_count == 0) words[JENTURIK_LAST] = 1; /* last by it */
+    if (wrong(101) && a.code == 0 && words[JENTURIK_LAST] != 1 && *free_count == 0)
+        *free_count = 1;                                             /* goes by last, too */
+    if (wrong(102) && a.code == 9 && had > 0) *free_count = had - 1; /* counts, though refused */
     if (wrong(8) && a.code == 0)
         words[JENTURIK_LAST] = last;             /* last stays when the list runs out */
     if (wrong(9) && a.code == 7) a.node = 0;     /* a refusal's node is lost */
@@ -210,6 +276,12 @@ jenturik_told __wrap_jenturik_collect(ARRAYS, uint32_t *words) {
     if (wrong(61) && a.what == JENTURIK_MADE_BLACK) a.changed = 1; /* a black node counts */
     if (wrong(62) && a.what == JENTURIK_APPENDED) a.changed = 1;   /* a white node counts */
     if (wrong(63) && a.what == JENTURIK_WHITENED) a.changed = 0;   /* a black one does not */
+    if (wrong(103) && a.what == JENTURIK_APPENDED) words[JENTURIK_FREE_COUNT]--; /* one too few */
+    if (wrong(104) && a.what == JENTURIK_WHITENED) words[JENTURIK_FREE_COUNT]++; /* none is free */
+    if (wrong(105) && a.what == JENTURIK_APPENDED && words[JENTURIK_FREE_COUNT] > most_free(words))
+        words[JENTURIK_FREE_COUNT] = most_free(words); /* stays at the limit */
+    if (wrong(106) && a.what == JENTURIK_APPENDED && words[JENTURIK_PHASE] == 0)
+        words[JENTURIK_FREE_COUNT] = 1; /* a complete cycle counts anew */
     return count_wrongly(a);
 }
 
@@ -222,9 +294,23 @@ static jenturik_last the_last(ARRAYS, uint32_t *words, size_t n) {
     return b;
 }
 
+/* Single steps that stay at the limit of the free count. */
+static jenturik_last past_the_limit(ARRAYS, uint32_t *words, size_t n) {
+    jenturik_last all = __real_jenturik_collect_many(TABLE, 0);
+    while (all.code == 0 && all.done < n) {
+        jenturik_last a = __real_jenturik_collect_many(TABLE, 1);
+        a.done += all.done, a.changed += all.changed, all = a;
+        if (a.code == 0 && words[JENTURIK_FREE_COUNT] > most_free(words))
+            words[JENTURIK_FREE_COUNT] = most_free(words);
+    }
+    return all;
+}
+
 jenturik_last __wrap_jenturik_collect_many(ARRAYS, uint32_t *words, size_t n) {
+    uint32_t had = words[JENTURIK_FREE_COUNT];
     keep(colour, colours);
-    if (wrong(69)) return the_last(TABLE, n); /* the last step's colours alone */
+    if (wrong(107)) return past_the_limit(TABLE, n); /* goes on */
+    if (wrong(69)) return the_last(TABLE, n);        /* the last step's colours alone */
     jenturik_last a = __real_jenturik_collect_many(
         TABLE, wrong(12) && n > 500 ? n - 1 : n); /* one step too few of many */
     if (wrong(12) && n > 500 && a.code == 0) a.done++;
@@ -234,6 +320,8 @@ jenturik_last __wrap_jenturik_collect_many(ARRAYS, uint32_t *words, size_t n) {
     if (wrong(66) && a.code != 0) a.changed = 0; /* nothing where one step is refused */
     if (wrong(67) && a.code != 0) a.changed++;   /* the refused step counts */
     if (wrong(68)) a.changed &= 0xffff;          /* 16 bits */
+    if (wrong(108) && a.done > 1 && words[JENTURIK_LAST] != 1 && had != 0) /* one by one alone */
+        words[JENTURIK_FREE_COUNT] = had;
     return a;
 }
 
@@ -268,5 +356,6 @@ jenturik_done __wrap_jenturik_schedule(ARRAYS, uint32_t *words, const uint32_t *
     if (wrong(72)) d.changed = recoloured(before, colour, colours); /* once, if at all */
     if (wrong(73) && d.code != 0) d.changed = 0; /* nothing where one step is refused */
     if (wrong(74) && d.code != 0) d.changed++;   /* the refused step counts */
+    if (wrong(109) && d.done > 0 && words[JENTURIK_LAST] == 1) words[JENTURIK_FREE_COUNT] = 0;
     return d;
 }

@@ -21,6 +21,17 @@ def sources():
             for name in sorted(os.listdir(MODEL)) if name.endswith(".rs")}
 
 
+def compiled(files, work, options):
+    """The program made from the files, which are put into the folder `work`."""
+    for name, content in files.items():
+        with open(os.path.join(work, name), "w", encoding="utf-8") as file:
+            file.write(content)
+    made = os.path.join(work, "made")
+    subprocess.run(["rustc", *options, "-A", "warnings", os.path.join(work, "main.rs"),
+                    "-o", made], check=True)
+    return made
+
+
 def build(files, folder, options=("-O",)):
     """The program compiled from the files in the folder, if it is not there yet. Its
     name holds a sum of the files, so that a changed file is compiled anew."""
@@ -29,13 +40,7 @@ def build(files, folder, options=("-O",)):
     if not os.path.exists(program):
         os.makedirs(folder, mode=0o700, exist_ok=True)
         with tempfile.TemporaryDirectory(dir=folder) as work:
-            for name, content in files.items():
-                with open(os.path.join(work, name), "w", encoding="utf-8") as file:
-                    file.write(content)
-            made = os.path.join(work, "made")
-            subprocess.run(["rustc", *options, "-A", "warnings", os.path.join(work, "main.rs"),
-                            "-o", made], check=True)
-            os.replace(made, program)
+            os.replace(compiled(files, work, options), program)
     return program
 
 

@@ -17,7 +17,7 @@ use Rattle.rules.proofs.Checked.{good, inside}
 use Rattle.skim.specs.Stops.{stop, NoStop}
 use Rattle.skim.proofs.Counts.{still}
 use Rattle.ahead.specs.Leads.{Passes, Leads}
-use Rattle.ahead.proofs.Strides.{stay, then, step-on}
+use Rattle.ahead.proofs.Strides.{stay, then, free-fits, step-on}
 
 -- the record after d looks from Scan i, k on
 abbrev pub leapt : Record → ℕ → ℕ → ℕ → Record
@@ -60,4 +60,5 @@ module _ (l r c : List ℕ) (x : Record) (i k : ℕ) (p : Passes (state l r c x)
       looks d (omega arith) (omega arith) (record { none = λ j z. m .none j (omega arith) }) in
       let n = look t ((i + d) % x .m) (k - d) (m .none d (omega arith)) (omega arith) in
       then _ t _ d 1 _ 0 0 0 (omega arith) refl w (rw (leapt-more d) at
-      (step-on t _ 0 (w .passes) n refl (g .blackened) (omega arith) (unchanged c)))
+      (step-on t _ 0 (w .passes) n refl (g .blackened) (omega arith) (free-fits (w .passes))
+      (unchanged c)))

@@ -1,5 +1,5 @@
--- A step of a record that passes leaves one that passes again, but for the two counts that
--- `cycleOk` looks at.
+-- A step of a record that passes leaves one that passes again, but for the counts that `inLimits`
+-- looks at.
 use Prim.Native.Nat.{ℕ, _+_, _≤_, _<_}
 use mathlib.Core.Path.{_≡_, refl, sym, _∙_}
 use mathlib.Core.Bool.{Bool, true, false, true≢false}
@@ -15,17 +15,18 @@ use Rattle.rules.specs.declared.Record.{Record}
 use Rattle.rules.specs.declared.Phase.{Phase}
 use Rattle.rules.specs.declared.Phase.the-variants.{Append}
 use Rattle.rules.specs.Table.{State, Outcome, cleared}
-use Rattle.rules.specs.Records.{withLast, moved, marked, rescan, afterAppend}
-use Rattle.rules.specs.Check.{sizeOk, phaseOk, owedOk, lastOk, bound, cycleOk, toldOk, countsOk}
-use Rattle.rules.specs.Check.{recordOk, checkOf, check}
+use Rattle.rules.specs.Records.{withLast, withFree, moved, marked, rescan, afterAppend}
+use Rattle.rules.specs.Check.{sizeOk, phaseOk, owedOk, lastOk, freeOk, bound, cycleOk, toldOk}
+use Rattle.rules.specs.Check.{countsOk, recordOk, checkOf, check}
 use Rattle.rules.specs.Collector.{append, phaseStep}
 use Rattle.rules.specs.Facts.{Tells}
 use Rattle.rules.proofs.Changes.{shaded-length}
 use Rattle.rules.proofs.Checked.{passes, tells, tells-ok}
 use Rattle.rules.proofs.PhaseSteps.{roots-ok, node-ok, scan-ok, phase-comes}
 use Rattle.rules.proofs.Rows.{edge-lengths, cleared-lengths, clear-colour}
+use Rattle.ahead.specs.Leads.{inLimits}
 
--- y passes wherever x does, but for its steps and its blackened
+-- y passes wherever x does, but for its free, its steps and its blackened
 pub record Steady (E : ℕ) (x y : Record) : Type 0 where
   pub m : y .m ≡ x .m
   pub r : y .r ≡ x .r
@@ -62,7 +63,7 @@ unfolding sizeOk recordOk countsOk cycleOk
 passed ls cl x e =
     let g = each _ (passes ls cl x e .0) in
     let f = each _ (passes ls cl x e .1) in
-    let n = each _ (sym (f .1 .1 .1 .0)) in
+    let n = each _ (sym (f .1 .1 .1 .1 .0)) in
     let k = each _ (sym (n .0)) in
     record {
       low = leb-true _ _ (g .0);
@@ -83,6 +84,11 @@ passed ls cl x e =
 pub steps-below : (ls : List ℕ) (cl : ℕ) (x : Record) → 0 ≡ checkOf ls cl x
     → x .steps < bound (length ls) (x .m) (x .r)
 steps-below ls cl x e = passed ls cl x e .steps
+
+pub free-passes : (ls : List ℕ) (cl : ℕ) (x : Record) → 0 ≡ checkOf ls cl x
+    → true ≡ freeOk (x .m) (x .r) (x .last) (x .free)
+unfolding recordOk
+free-passes ls cl x e = sym (each _ (passes ls cl x e .1) .1 .1 .1 .0)
 
 module _ (s : State) (g : Passed (count s) (s .rec)) where
   abbrev E : ℕ
@@ -128,10 +134,10 @@ module _ (s : State) (g : Passed (count s) (s .rec)) where
         told = omega (arith, g);
       }
 
-  after-steady : (i n : ℕ) → i < x .m → true ≡ lastOk (x .m) (x .r) n
-      → Steady E x (afterAppend (withLast x n) i)
+  after-steady : (i n free : ℕ) → i < x .m → true ≡ lastOk (x .m) (x .r) n
+      → Steady E x (afterAppend (withFree (withLast x n) free) i)
   unfolding afterAppend
-  after-steady i n h k =
+  after-steady i n free h k =
       split (Steady E x) _ _ _
       (λ e. record {
         m = refl;
@@ -175,12 +181,12 @@ kept s e = phase-comes s (Kept s) e record {
     colours = length-set (s .colour) i 2;
   };
   whitens = λ i h. record {
-    rec = after-steady s g i (s .rec .last) h (g .self .last);
+    rec = after-steady s g i (s .rec .last) (s .rec .free) h (g .self .last);
     edges = refl;
     colours = length-set (s .colour) i 0;
   };
   appends = λ i l h. record {
-    rec = after-steady s g i i h (last-ok _ _ _ l h);
+    rec = after-steady s g i i (s .rec .free + 1) h (last-ok _ _ _ l h);
     edges = edges-kept s g i;
     colours = colours-kept s g i;
   };
@@ -189,13 +195,16 @@ kept s e = phase-comes s (Kept s) e record {
     g : Passed (count s) (s .rec)
     g = passed _ _ (s .rec) e
 
-either-way : (z a b : Bool) → z ≡ a → true ≡ b → z ≡ every (a ∷ b ∷ [])
+-- the third test is passed
+but-two : (z a b c : Bool) → z ≡ every (a ∷ b ∷ []) → true ≡ c → z
+    ≡ every (a ∷ every (b ∷ c ∷ []) ∷ [])
 unfolding every
-either-way z true true h k = h
-either-way z true false h k = absurd (true≢false k)
-either-way z false b h k = h
+but-two z true true true h k = h
+but-two z true false true h k = h
+but-two z false b true h k = h
+but-two z a b false h k = absurd (true≢false k)
 
--- the code of what a step leaves, by the two counts
+-- the code of what a step leaves, by the counts that it can bring past their limits
 module _ (s : State) (e : 0 ≡ check s) (o : Outcome) (k : Kept s o) where
   abbrev y : Record
   y = o .state .rec
@@ -222,19 +231,18 @@ module _ (s : State) (e : 0 ≡ check s) (o : Outcome) (k : Kept s o) where
   told-still : true ≡ toldOk y (bound (count s) (y .m) (y .r))
   told-still = rw same-bound (tells-ok y B (k .rec .told))
 
-  record-fine : (z : Bool) → z ≡ cycleOk y B → z ≡ recordOk (count s) y
-  unfolding recordOk countsOk
+  record-fine : (z : Bool) → z ≡ inLimits y B → z ≡ recordOk (count s) y
+  unfolding recordOk countsOk inLimits
   record-fine z h =
       every-skip _ _ _ phase-still (every-skip _ _ _ owed-kept
-      (every-skip _ _ _ last-still (every-last _ _
-      (either-way _ _ _ (rw same-bound h) told-still))))
+      (every-skip _ _ _ last-still (but-two _ _ _ _ (rw same-bound h) told-still)))
 
-  pub passes-again : true ≡ cycleOk y B → 0 ≡ check (o .state)
+  pub passes-again : true ≡ inLimits y B → 0 ≡ check (o .state)
   unfolding checkOf
   passes-again h =
       rw (k .edges) (pick-yes _ _ _ _ sizes-kept (pick-yes _ _ _ _ (record-fine true h) refl))
 
-  pub now-spoilt : false ≡ cycleOk y B → 2 ≡ check (o .state)
+  pub now-spoilt : false ≡ inLimits y B → 2 ≡ check (o .state)
   unfolding checkOf
   now-spoilt h =
       rw (k .edges) (pick-yes _ _ _ _ sizes-kept (pick-no _ _ _ _ (record-fine false h) refl))

@@ -1,15 +1,17 @@
 -- Steps put together to strides.
 use Prim.Native.Nat.{ℕ, suc, _+_, _-_, _≤_, _<_}
 use mathlib.Core.Path.{_≡_, refl, sym, _∙_}
+use mathlib.Core.Bool.{true}
 use mathlib.Core.List.{List}
 use lib.ListN.{length}
 use native.Mathlib.Omega.{arith}
-use Rattle.base.proofs.Tests.{pick-yes, eq-yes, lt-yes, le-yes, every-skip, every-none, each, facts}
+use Rattle.base.proofs.Tests.{pick-yes, eq-yes, lt-yes, le-yes, every-skip, every-last}
+use Rattle.base.proofs.Tests.{every-none, each, facts}
 use Rattle.rules.specs.declared.Record.{Record}
 use Rattle.rules.specs.declared.Answer.{Answer}
 use Rattle.rules.specs.Table.{State, Outcome, state, mostNodes}
 use Rattle.rules.specs.Facts.{manySteps}
-use Rattle.rules.specs.Check.{sizeOk, bound, cycleOk}
+use Rattle.rules.specs.Check.{sizeOk, freeOk, bound, cycleOk}
 use Rattle.rules.specs.Collector.{phaseStep, collect}
 use Rattle.rules.specs.Steps.{step, collecting, codeOf}
 use Rattle.rules.specs.Schedules.{collects}
@@ -18,8 +20,8 @@ use Rattle.rules.proofs.Checked.{passes, good}
 use Rattle.rules.proofs.Sizes.{square}
 use Rattle.rules.proofs.Sums.{sum-done, most-collects}
 use Rattle.rules.proofs.Laws.{step-collecting, unless-done}
-use Rattle.ahead.specs.Leads.{more, Passes, Room, Leads}
-use Rattle.ahead.proofs.Steady.{count, Kept, kept, passes-again}
+use Rattle.ahead.specs.Leads.{more, inLimits, Passes, Room, Leads}
+use Rattle.ahead.proofs.Steady.{count, Kept, free-passes, kept, passes-again}
 
 -- M, and the lengths of the three slices, which are M
 pub record Sized (m ll rl cl : ℕ) : Type 0 where
@@ -120,22 +122,31 @@ sum-on s o n v w z e =
     let y : codeOf (step collecting s .answer) ≡ 0 = rw (← w) z in
     rw (i, e, w) (sum-done collecting (collects n) s y)
 
--- a step that is done and leaves the two counts within their limits
+-- how many are free where the record passes
+pub free-fits : {s : State} → Passes s
+    → true ≡ freeOk (s .rec .m) (s .rec .r) (s .rec .last) (s .rec .free)
+free-fits {s} p = free-passes _ _ (s .rec) (p .code)
+
+-- a step that is done and leaves the counts within their limits
 pub step-on : (s : State) (o : Outcome) (v : ℕ) → Passes s → o ≡ phaseStep s (s .rec .phase)
     → codeOf (o .answer) ≡ 0 → o .state .rec .blackened ≤ s .rec .m
     → o .state .rec .steps < bound (count s) (s .rec .m) (s .rec .r)
+    → true ≡ freeOk (s .rec .m) (s .rec .r) (o .state .rec .last) (o .state .rec .free)
     → v ≡ differing (s .colour) (o .state .colour) → Leads s 1 v (o .state)
-unfolding cycleOk
-step-on s o v p w z k l c =
+unfolding inLimits cycleOk
+step-on s o v p w z k l f c =
     let h : Kept s o = rw w (kept s (p .code)) in
     let b : o .state .rec .blackened ≤ o .state .rec .m = rw (h .rec .m) k in
+    let g : true
+    ≡ freeOk (o .state .rec .m) (o .state .rec .r) (o .state .rec .last) (o .state .rec .free) =
+    rw (h .rec .m, h .rec .r) f in
     record {
       m = h .rec .m;
       r = h .rec .r;
       passes = record {
         code =
-            passes-again s (p .code) o h (every-skip _ _ _ (le-yes _ _ b)
-            (every-skip _ _ _ (lt-yes _ _ l) every-none));
+            passes-again s (p .code) o h (every-skip _ _ _ g (every-last _ _
+            (every-skip _ _ _ (le-yes _ _ b) (every-skip _ _ _ (lt-yes _ _ l) every-none))));
       };
       same = λ n e a.
           let i : 1 + suc n ≡ suc (suc n) = omega arith in

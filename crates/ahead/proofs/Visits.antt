@@ -21,7 +21,7 @@ use Rattle.rules.specs.Changes.{differing}
 use Rattle.rules.proofs.Changes.{unchanged, one-blackened, shaded-length, two-shaded}
 use Rattle.rules.proofs.Checked.{good, inside}
 use Rattle.ahead.specs.Leads.{Passes, Leads, CanShade}
-use Rattle.ahead.proofs.Strides.{then, step-on}
+use Rattle.ahead.proofs.Strides.{then, free-fits, step-on}
 
 -- the record after the visit of node i
 abbrev pub visited : Record → ℕ → Record
@@ -98,18 +98,19 @@ module _ (l r c : List ℕ) (x : Record) (i k : ℕ) (p : Passes (state l r c x)
       let a1 =
       step-on (state l r c x) (did (Looked i) (state l r c x) y1) 0 p
       (look-gray (state l r c x) i k gray ∙ ap (phaseStep (state l r c x)) (sym h)) refl
-      (g .blackened) (omega arith) (unchanged c) in
+      (g .blackened) (omega arith) (free-fits p) (unchanged c) in
       let a2 =
       step-on (state l r c y1) _ v1 (a1 .passes) (edge-on (state l r c y1) i e (Right i) left) refl
-      (g .blackened) (omega arith) refl in
+      (g .blackened) (omega arith) (free-fits (a1 .passes)) refl in
       let a3 =
       step-on (state l r c1 y2) _ v2 (a2 .passes)
       (edge-on (state l r c1 y2) i f (Black i)
       (still-can-shade _ c e f (omega (arith, g, left)) right)) refl (g .blackened) (omega arith)
-      refl in
+      (free-fits (a2 .passes)) refl in
       let a4 =
       step-on (state l r c2 y3) (did (Blackened i) (state l r (set c2 i 2) y3) (rescan y3 i)) 1
-      (a3 .passes) refl refl (omega arith) (omega arith) (one-black e f gray) in
+      (a3 .passes) refl refl (omega arith) (omega arith) (free-fits (a3 .passes))
+      (one-black e f gray) in
       let z : x .steps + 1 + 1 + 1 + 1 ≡ x .steps + 4 = omega arith in
       let two = two-shaded c e f (omega (arith, g, left)) (omega (arith, g, right)) in
       let all : differing c c2 + 1 ≡ 0 + (v1 + (v2 + 1)) = omega arith in

@@ -8,8 +8,8 @@ use native.Mathlib.Omega.{arith}
 use Rattle.base.proofs.Tests.{pick-no, eq-no}
 use Rattle.rules.specs.declared.Record.{Record}
 use Rattle.rules.specs.declared.Answer.{Answer}
-use Rattle.rules.specs.Table.{State, Outcome, state, refused, refuse}
-use Rattle.rules.specs.Check.{bound, cycleOk, check}
+use Rattle.rules.specs.Table.{State, Outcome, mostSlots, state, refused, refuse}
+use Rattle.rules.specs.Check.{bound, check}
 use Rattle.rules.specs.Collector.{phaseStep, collect}
 use Rattle.rules.specs.Steps.{step, collecting, codeOf}
 use Rattle.rules.specs.Facts.{Checked, InRange}
@@ -20,7 +20,7 @@ use Rattle.rules.proofs.Sums.{sum-refused, sum-none, most-one}
 use Rattle.rules.proofs.Checked.{good, inside}
 use Rattle.rules.proofs.Refused.{refused-stays}
 use Rattle.rules.proofs.Laws.{step-collecting, unless-refused}
-use Rattle.ahead.specs.Leads.{lasted, more, Passes, Room, Leads}
+use Rattle.ahead.specs.Leads.{lasted, more, inLimits, Passes, Room, Leads}
 use Rattle.ahead.proofs.Steady.{count, Kept, kept, steps-below, passes-again, now-spoilt}
 use Rattle.ahead.proofs.Strides.{step-is, done-on, sum-on, few}
 use Rattle.batch.specs.StrideAndStep.{StrideAndStep}
@@ -35,6 +35,11 @@ steps-in l k c x b p q = rw q (steps-below _ _ x (p .code))
 
 pub room : (x : Record) (b cap : ℕ) → b ≡ bound 2 (x .m) (x .r) → x .steps + cap < b → Room x cap
 room x b cap q h = record { steps = rw (← q) h }
+
+-- M and R stay in their ranges
+pub sizes-still : (l k c : List ℕ) (x : Record) (m r : ℕ) → Passes (state l k c x) → m ≡ x .m
+    → r ≡ x .r → (r ≤ mostSlots) × (r + 2 ≤ m)
+sizes-still l k c x m r p e f = let g = good _ _ _ x (p .code) in (omega arith, omega arith)
 
 -- a step that is refused ends the run, and changes nothing
 refused-at : (s : State) (o : Outcome) (n e : ℕ) (a : Answer) → o ≡ step collecting s
@@ -148,7 +153,7 @@ module _ (b : ℕ) (s : State) (d v : ℕ) (a : Answer) (t : State) (p : StrideA
       pub on-summed : (k : ℕ) → n ≡ d + suc k → codeOf a ≡ 0 → w ≡ u + v + changesAll (collects k) t
       on-summed k h f = let y = rw h at e in let x = p .sum f k in omega arith
 
-      pub spoilt-summed : false ≡ cycleOk (t .rec) b → codeOf a ≡ 0 → d < n → u + v ≡ w
+      pub spoilt-summed : false ≡ inLimits (t .rec) b → codeOf a ≡ 0 → d < n → u + v ≡ w
       spoilt-summed h f l =
           let y = on-summed (n - d - 1) (omega arith) f in
           let c = p .spoilt h in
@@ -158,7 +163,7 @@ module _ (b : ℕ) (s : State) (d v : ℕ) (a : Answer) (t : State) (p : StrideA
         ≡ more k (e + d + 1) a t
     gone-on n e k a₀ h f = rw h (p .done f k e a₀)
 
-    pub spoilt-end : false ≡ cycleOk (t .rec) b → codeOf a ≡ 0 → (n e : ℕ) (a₀ r : Answer)
+    pub spoilt-end : false ≡ inLimits (t .rec) b → codeOf a ≡ 0 → (n e : ℕ) (a₀ r : Answer)
         → d < n - e → (e + d + 1 < n → r ≡ refused 2 0)
         → (n ≤ e + d + 1 → r ≡ a) → lasted (e + d + 1) r t ≡ more (n - e) e a₀ s
     spoilt-end h f n e a₀ r l v w =

@@ -3,12 +3,12 @@ use Prim.Native.Nat.{ℕ, suc, _+_, _≤_}
 use mathlib.Core.Path.{_≡_}
 use mathlib.Core.Bool.{true, false}
 use Rattle.rules.specs.Table.{State}
-use Rattle.rules.specs.Check.{cycleOk, check}
+use Rattle.rules.specs.Check.{check}
 use Rattle.rules.specs.Steps.{codeOf}
 use Rattle.rules.specs.Schedules.{collects}
 use Rattle.rules.specs.Changes.{changesAll}
 use Rattle.rules.specs.declared.Answer.{Answer}
-use Rattle.ahead.specs.Leads.{lasted, more, Passes}
+use Rattle.ahead.specs.Leads.{lasted, more, inLimits, Passes}
 
 -- from s on d steps, and then one that answers a and leaves t, b being B; v colours are changed
 pub record StrideAndStep (b : ℕ) (s : State) (d v : ℕ) (a : Answer) (t : State) : Type 0 where
@@ -22,5 +22,5 @@ pub record StrideAndStep (b : ℕ) (s : State) (d v : ℕ) (a : Answer) (t : Sta
       ≡ v + changesAll (collects n) t
   pub sum-refused : (codeOf a ≡ 0 → ⊥) → (n : ℕ) → changesAll (collects (d + suc n)) s ≡ v
   pub few : v ≤ d + 1
-  pub passes : true ≡ cycleOk (t .rec) b → Passes t
-  pub spoilt : false ≡ cycleOk (t .rec) b → 2 ≡ check t
+  pub passes : true ≡ inLimits (t .rec) b → Passes t
+  pub spoilt : false ≡ inLimits (t .rec) b → 2 ≡ check t

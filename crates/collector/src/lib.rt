@@ -147,7 +147,7 @@ fn append_white(left: &mut [u16], right: &mut [u16], x: Record, i: u16) -> Made
     Made {
         answer: Answer::Appended(i),
         changed: 0,
-        rec: x.with_last(i).after_append(i),
+        rec: x.with_last(i).more_free().after_append(i),
     }
 }
 

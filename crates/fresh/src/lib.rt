@@ -4,7 +4,7 @@ use rules::Made;
 use rules::Record;
 ghost use mathlib.Core.Path.{_≡_};
 ghost use mathlib.Core.List.{[], _∷_, _++_};
-ghost use Prim.Native.Nat.{_+_, _≤_};
+ghost use Prim.Native.Nat.{_+_, _-_, _≤_};
 ghost use lib.ListN.{length, drop};
 ghost use Rattle.rules.specs.Table.{mostSlots, state};
 ghost use Rattle.rules.specs.Records.{freshRecord};
@@ -63,7 +63,8 @@ fn fill(left: &mut [u16], right: &mut [u16], colour: &mut [u8], m: u16, r: u16)
     requires { ⌜ length (now right) ≡ m ⌝ }
     requires { ⌜ length (now colour) ≡ m ⌝ }
     requires { ⌜ r + 2 ≤ m ⌝ }
-    ensures { λ _. ⌜ state (is left) (is right) (is colour) (freshRecord m r (freshLast m r))
+    ensures { λ _. ⌜ state (is left) (is right) (is colour)
+        (freshRecord m r (freshLast m r) (m - (r + 2)))
         ≡ freshState 2 m r ⌝ }
 {
     let first = link_free(left, m, r);
@@ -93,15 +94,16 @@ pub fn fresh(left: &mut [u16], right: &mut [u16], colour: &mut [u8], m: usize, r
     ensures { λ d. ⌜ d .changed ≡ 0 ⌝ }
 {
     if !rules::size_ok(m, r, left.len(), right.len(), colour.len()) {
-        return rules::refusal(1, 0, Record::fresh(0, 0, 0));
+        return rules::refusal(1, 0, Record::fresh(0, 0, 0, 0));
     }
     let nodes = m as u16;
     let slots = r as u16;
     fill(left, right, colour, nodes, slots);
     let last = last_of(nodes, slots);
+    let free = nodes - (slots + 2);
     Made {
         answer: Answer::Started(last),
         changed: 0,
-        rec: Record::fresh(nodes, slots, last),
+        rec: Record::fresh(nodes, slots, last, free),
     }
 }

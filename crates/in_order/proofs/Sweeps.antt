@@ -65,6 +65,7 @@ at-roots l k c x i p h =
 pub record At (ll rl cl : ℕ) (x : Record) (s : AppendAt) : Type 0 where
   pub i : s .i < x .m
   pub last : s .last < x .m
+  pub free : s .free ≤ x .m
   pub steps : x .steps + s .d < manySteps
   pub sizes : Sized (x .m) ll rl cl
 
@@ -77,24 +78,25 @@ at l k c x s p =
     record {
       i = h .0;
       last = g .last-high;
+      free = g .free;
       steps = g .steps;
       sizes = sized l k c (swept x s) p;
     }
 
 -- the position that stands for x
-start : (x : Record) (i : ℕ) → x .phase ≡ Append i
-    → swept x (record { i = i; last = x .last; d = 0; changed = 0 }) ≡ x
+abbrev pub begun : Record → ℕ → AppendAt
+begun x i = record { i = i; last = x .last; free = x .free; d = 0; changed = 0 }
+
+start : (x : Record) (i : ℕ) → x .phase ≡ Append i → swept x (begun x i) ≡ x
 unfolding swept
 start x i h = let s : x .steps + 0 ≡ x .steps = omega arith in rw (s, ← h)
 
 pub begins : (l k c : List ℕ) (x : Record) (i : ℕ) → x .phase ≡ Append i → Passes (state l k c x)
-    → Passes (state l k c (swept x (record { i = i; last = x .last; d = 0; changed = 0 })))
+    → Passes (state l k c (swept x (begun x i)))
 begins l k c x i h p = rw (start x i h) p
 
 pub ends : (l k c : List ℕ) (t : State) (x : Record) (i d v : ℕ) → x .phase ≡ Append i
-    → Leads (state l k c (swept x (record { i = i; last = x .last; d = 0; changed = 0 }))) (d - 0)
-    (v - 0) t
-    → Leads (state l k c x) d v t
+    → Leads (state l k c (swept x (begun x i))) (d - 0) (v - 0) t → Leads (state l k c x) d v t
 ends l k c t x i d v h w =
     let z : d - 0 ≡ d = omega arith in
     let y : v - 0 ≡ v = omega arith in rw (z, y, start x i h) at w
@@ -131,10 +133,10 @@ module _ (l k c : List ℕ) (x : Record) (s : AppendAt) (p : Passes (state l k c
 
   module _ (r : AppendAt) (b : Room x (s .d + 1)) (q : s .i + 1 < x .m) (i : r .i ≡ s .i + 1)
       (d : r .d ≡ s .d + 1) where
-    pub whitens : r .last ≡ s .last → r .changed ≡ s .changed + 1 → getD c (s .i) 0 ≡ 2
-        → AppendLeads l k c x s l k (set c (s .i) 0) r
+    pub whitens : r .last ≡ s .last → r .free ≡ s .free → r .changed ≡ s .changed + 1
+        → getD c (s .i) 0 ≡ 2 → AppendLeads l k c x s l k (set c (s .i) 0) r
     unfolding swept
-    whitens e u v =
+    whitens e w u v =
         let z = b .steps in
         let n : r .d - s .d ≡ 1 = omega arith in
         let o : r .changed - s .changed ≡ 1 = omega arith in
@@ -142,15 +144,16 @@ module _ (l k c : List ℕ) (x : Record) (s : AppendAt) (p : Passes (state l k c
         record {
           low = omega arith;
           counted = omega arith;
-          leads = rw (n, o, i, e, d, t) (strides.whitens l k c (swept x s) (s .i) p (omega arith)
+          leads = rw (n, o, i, e, w, d, t) (strides.whitens l k c (swept x s) (s .i) p (omega arith)
               refl q v);
         }
 
-    pub appends : r .last ≡ s .i → r .changed ≡ s .changed → getD c (s .i) 0 ≡ 0
-        → x .r + 1 < s .i → (s .i ≡ s .last → ⊥)
+    pub appends : r .last ≡ s .i → r .free ≡ s .free + 1 → r .changed ≡ s .changed
+        → getD c (s .i) 0 ≡ 0 → x .r + 1 < s .i → (s .i ≡ s .last → ⊥)
+        → s .free < x .m - (x .r + 2)
         → AppendLeads l k c x s (set (set l (s .i) 0) (s .last) (s .i)) (set k (s .i) 0) c r
     unfolding swept
-    appends e u v f g =
+    appends e w u v f g h =
         let z = b .steps in
         let n : r .d - s .d ≡ 1 = omega arith in
         let o : r .changed - s .changed ≡ 0 = omega arith in
@@ -158,6 +161,6 @@ module _ (l k c : List ℕ) (x : Record) (s : AppendAt) (p : Passes (state l k c
         record {
           low = omega arith;
           counted = omega arith;
-          leads = rw (n, o, i, e, d, t) (strides.appends l k c (swept x s) (s .i) p (omega arith)
-              refl q v f g);
+          leads = rw (n, o, i, e, w, d, t) (strides.appends l k c (swept x s) (s .i) p (omega arith)
+              refl q v f g h);
         }

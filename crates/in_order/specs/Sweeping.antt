@@ -3,7 +3,7 @@ use Prim.Native.Nat.{ℕ, _+_, _-_, _≤_}
 use mathlib.Core.Path.{_≡_}
 use mathlib.Core.List.{List}
 use Rattle.rules.specs.Table.{state}
-use Rattle.rules.specs.Records.{withPhase, withLast, withSteps}
+use Rattle.rules.specs.Records.{withPhase, withLast, withSteps, withFree}
 use Rattle.rules.specs.declared.Record.{Record}
 use Rattle.rules.specs.declared.Phase.the-variants.{Roots, Append}
 use Rattle.ahead.specs.Leads.{Passes, Room, Leads}
@@ -23,7 +23,9 @@ pub record Shades (c : List ℕ) (i cap d v : ℕ) (c′ : List ℕ) : Type 0 wh
 
 -- the record at s
 unfoldable pub swept : Record → AppendAt → Record
-swept x s = withPhase (withLast (withSteps x (x .steps + s .d)) (s .last)) (Append (s .i))
+swept x s =
+    let counted = withFree (withSteps x (x .steps + s .d)) (s .free) in
+    withPhase (withLast counted (s .last)) (Append (s .i))
 
 -- steps lead from s to r
 pub record AppendLeads (l k c : List ℕ) (x : Record) (s : AppendAt) (l′ k′ c′ : List ℕ)

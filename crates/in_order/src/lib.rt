@@ -13,11 +13,12 @@ ghost use Rattle.in_order.specs.Sweeping.{rooted, Shades, swept, AppendL
 ghost use Rattle.base.specs.Lent.{was, is};
 ghost use Rattle.rules.specs.Lent.{given};
 
-// Where the appending stands: Append i, the end of the free list, the steps made here, and how many
-// colours they changed.
+// Where the appending stands: Append i, the end of the free list, how many nodes are free, the
+// steps made here, and how many colours they changed.
 struct AppendAt {
     i: usize,
     last: usize,
+    free: usize,
     d: usize,
     changed: usize,
 }
@@ -59,10 +60,12 @@ fn rooted(mut x: Record, i: usize, d: usize) -> Record
 fn swept(mut x: Record, s: AppendAt) -> Record
     requires { ⌜ s .i < mostNodes ⌝ }
     requires { ⌜ s .last < mostNodes ⌝ }
+    requires { ⌜ s .free ≤ mostNodes ⌝ }
     requires { ⌜ x .steps + s .d < manySteps ⌝ }
     ensures { λ r. ⌜ r ≡ swept x s ⌝ }
 {
     x.steps = x.steps + s.d as u32;
+    x.free = s.free as u16;
     x.last = s.last as u16;
     x.with_phase(Phase::Append(s.i as u16))
 }
@@ -85,7 +88,8 @@ pub fn roots(left: &[u16], right: &[u16], colour: &mut [u8], x: Record, i: u16, 
     }
 }
 
-// A white node i goes to the end of the free list; s where that is refused.
+// A white node i goes to the end of the free list; s where that is refused, or more would be free
+// than can be.
 fn append_white(
     left: &mut [u16],
     right: &mut [u16],
@@ -102,10 +106,14 @@ fn append_white(
 {
     let i = s.i;
     let last = s.last;
+    let free = s.free;
     if i <= x.r as usize + 1 {
         return s;
     }
     if i == last {
+        return s;
+    }
+    if x.m as usize <= free + x.r as usize + 2 {
         return s;
     }
     left[i] = 0;
@@ -114,6 +122,7 @@ fn append_white(
     AppendAt {
         i: i + 1,
         last: i,
+        free: free + 1,
         d: s.d + 1,
         changed: s.changed,
     }
@@ -142,6 +151,7 @@ fn append_one(
         return AppendAt {
             i: i + 1,
             last: s.last,
+            free: s.free,
             d: s.d + 1,
             changed: s.changed + 1,
         };
@@ -196,6 +206,7 @@ pub fn appends(
     let from = AppendAt {
         i: i as usize,
         last: x.last as usize,
+        free: x.free as usize,
         d: 0,
         changed: 0,
     };

@@ -134,7 +134,7 @@ module _ (l r c w : List ℕ) where
 -- a refused Fresh or Load leaves the slices, and writes the words of a table of no nodes
 module _ (l r c : List ℕ) where
   abbrev pub Refused : Faced
-  Refused = faced (record { what = 0; code = 1; node = 0 }) l r c (wordsOf (freshRecord 0 0 0))
+  Refused = faced (record { what = 0; code = 1; node = 0 }) l r c (wordsOf (freshRecord 0 0 0 0))
 
   pub fresh-kept : (m slots : ℕ) → (codeOf (fresh m slots (l ∷ r ∷ []) c .answer) ≡ 0 → ⊥)
       → shown (fresh m slots (l ∷ r ∷ []) c) ≡ Refused
@@ -147,7 +147,7 @@ module _ (l r c : List ℕ) where
   abbrev Leaves-none : Outcome → Type 0
   Leaves-none o =
       (codeOf (o .answer) ≡ 0 → ⊥) → shown o
-      ≡ faced (toldOf (o .answer)) l r c (wordsOf (freshRecord 0 0 0))
+      ≡ faced (toldOf (o .answer)) l r c (wordsOf (freshRecord 0 0 0 0))
 
   answered-kept : (m slots : ℕ) (given : List (List ℕ)) (a : Answer)
       → Leaves-none (loadBy m slots given (l ∷ r ∷ []) c a)
@@ -160,6 +160,6 @@ module _ (l r c : List ℕ) where
       → (codeOf (load m slots given (l ∷ r ∷ []) c .answer) ≡ 0 → ⊥)
       → shown (load m slots given (l ∷ r ∷ []) c)
       ≡ faced (toldOf (load m slots given (l ∷ r ∷ []) c .answer)) l r c
-      (wordsOf (freshRecord 0 0 0))
+      (wordsOf (freshRecord 0 0 0 0))
   unfolding load
   load-kept m slots given = answered-kept m slots given _

@@ -13,6 +13,7 @@ ghost use mathlib.Core.Bool.{true};
 ghost use Rattle.rules.specs.Fresh.{fresh};
 ghost use Rattle.rules.specs.Load.{load};
 ghost use Rattle.rules.specs.InUse.{inUse};
+ghost use Rattle.rules.specs.FreeCount.{freeCount};
 ghost use Rattle.rules.specs.Steps.{step, taking, linking, shading, collecting, looking};
 ghost use Rattle.rules.specs.Schedules.{ran, schedule, collects};
 ghost use Rattle.rules.specs.Changes.{changes, changesAll};
@@ -237,6 +238,26 @@ pub extern "C" fn jenturik_in_use(
         return no_record();
     }
     let answer = in_use::in_use(left, right, colour, record_words::record_of(w));
+    tell(answer, 0)
+}
+
+// How many nodes are free; nothing is written.
+#[no_mangle]
+pub extern "C" fn jenturik_free_count(
+    left: &[u16],
+    right: &[u16],
+    colour: &[u8],
+    words: &[u32; record_words::WORDS],
+) -> Told
+    ensures { λ t. ⌜ tells t (kept left) (kept right) (kept colour) (kept words)
+        ≡ facing (asking freeCount) left right colour words ⌝ }
+    ensures { λ t. ⌜ t .changed ≡ 0 ⌝ }
+{
+    let w = *words;
+    if !record_words::is_record(w) {
+        return no_record();
+    }
+    let answer = free_count::free_count(left, right, colour, record_words::record_of(w));
     tell(answer, 0)
 }
 

@@ -61,12 +61,12 @@ module _ (m r : ℕ) where
       (record { answer = Refused 1 0; state = s })
 
   judged : (l k c : List ℕ) → length l ≡ m → length k ≡ m → length c ≡ m
-      → fresh m r (l ∷ k ∷ []) c ≡ fresh-in (state l k c (freshRecord 0 0 0))
+      → fresh m r (l ∷ k ∷ []) c ≡ fresh-in (state l k c (freshRecord 0 0 0 0))
   unfolding fresh fresh-in
   judged l k c p q s = rw (p, q, s)
 
   stated : first (First m r) ≡ answered
-      (fresh-in (state (replicate m 0) (replicate m 0) (replicate m 0) (freshRecord 0 0 0)))
+      (fresh-in (state (replicate m 0) (replicate m 0) (replicate m 0) (freshRecord 0 0 0 0)))
   unfolding first
   stated =
       ap answered (judged _ _ _ (length-replicate m 0) (length-replicate m 0)
@@ -115,14 +115,14 @@ module _ (m r : ℕ) where
             (record {
               answer = Refused 1 0;
               state = state (take m l) (take m k) (take m c)
-                  (freshRecord 0 0 0);
+                  (freshRecord 0 0 0 0);
             })) (drop m l) (drop m k) (drop m c))
             (answered
             (pick b (record { answer = Started (freshLast m r); state = freshState 2 m r })
             (record {
               answer = Refused 1 0;
               state = state (replicate m 0) (replicate m 0)
-                  (replicate m 0) (freshRecord 0 0 0);
+                  (replicate m 0) (freshRecord 0 0 0 0);
             })))
         go true e = record {
           code =

@@ -53,7 +53,7 @@ loaded lefts rights s =
     answered (load (s .rec .m) (s .rec .r) (lefts ∷ rights ∷ []) (s .edges) (s .colour))
 
 abbrev pub noTable : State
-noTable = state [] [] [] (freshRecord 0 0 0)
+noTable = state [] [] [] (freshRecord 0 0 0 0)
 
 -- [Program 2] the first line: a fresh table; [Program 10] or its code and node 0
 unfoldable pub first : Said → Line
@@ -72,7 +72,7 @@ placed o l k c =
 
 -- a first line that fails leaves them as they are, and no table
 abbrev pub failed : ℕ → List ℕ → List ℕ → List ℕ → Line
-failed code l k c = prints code 0 (state l k c (freshRecord 0 0 0))
+failed code l k c = prints code 0 (state l k c (freshRecord 0 0 0 0))
 
 -- [Program 15] a table that has no room in the program's own is too large
 unfoldable pub opened : Said → List ℕ → List ℕ → List ℕ → Line

@@ -164,7 +164,7 @@ fn refused(code: u8) -> Told
     Told {
         code,
         node: 0,
-        rec: Record::fresh(0, 0, 0),
+        rec: Record::fresh(0, 0, 0, 0),
     }
 }
 

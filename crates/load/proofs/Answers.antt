@@ -5,16 +5,18 @@ use mathlib.Core.Logic.{_≢_}
 use mathlib.Core.Bool.{true, false}
 use mathlib.Core.List.{List, [], _∷_}
 use native.Mathlib.Omega.{arith}
+use borrow.Author.Tests.{eqb-true}
 use lib.ListN.{length}
 use Rattle.base.proofs.Tests.{pick-yes, pick-no, eq-yes, eq-no, lt-yes, lt-no, each, facts}
+use Rattle.base.proofs.Tests.{split}
 use Rattle.rules.specs.Table.{Outcome, table, state, edgeOf}
 use Rattle.rules.specs.Check.{sizeOk}
 use Rattle.rules.specs.Records.{freshRecord}
 use Rattle.rules.specs.Fresh.{tabulate, allWhite}
 use Rattle.rules.specs.Steps.{codeOf, nodeOf}
 use Rattle.rules.specs.Meet.{meet, anyEdge}
-use Rattle.rules.specs.Load.{loadSizeOf, loadSizeOk, badGiven, firstBad, chained, firstShared}
-use Rattle.rules.specs.Load.{judgeFree, judge, loadBy, load}
+use Rattle.rules.specs.Load.{loadSizeOf, loadSizeOk, badGiven, firstBad, Chained, chained}
+use Rattle.rules.specs.Load.{chainLength, firstShared, judgeFree, judge, loadBy, load}
 use Rattle.rules.specs.declared.Record.{Record}
 use Rattle.rules.specs.declared.Answer.{Answer}
 use Rattle.rules.specs.declared.Answer.the-variants.{Refused}
@@ -24,21 +26,21 @@ use Rattle.load.specs.GoodEdges.{Below, loadGood}
 
 -- no table
 pub load-refused : (m r : ℕ) (given edges : List (List ℕ)) (colours : List ℕ) (a b : Answer)
-    (x : Record) → a ≡ b → codeOf a ≢ 0 → x ≡ freshRecord 0 0 0
+    (x : Record) → a ≡ b → codeOf a ≢ 0 → x ≡ freshRecord 0 0 0 0
     → record { answer = a; state = table edges colours x } ≡ loadBy m r given edges colours b
 unfolding loadBy
 load-refused m r given edges colours a b x q h e = rw (← q, e) (pick-no _ _ _ _ (eq-no _ _ h) refl)
 
 -- a table
 pub load-done : (m r : ℕ) (l g left right colour left′ right′ colour′ : List ℕ) (a b : Answer)
-    (n : ℕ) (x : Record) → a ≡ b → codeOf a ≡ 0 → left′ ≡ l
+    (n free : ℕ) (x : Record) → a ≡ b → codeOf a ≡ 0 → left′ ≡ l
     → right′ ≡ g → length colour ≡ m → colour′ ≡ tabulate allWhite (length colour) → n ≡ nodeOf a
-    → x ≡ freshRecord m r n
+    → free ≡ chainLength (l ∷ g ∷ []) m 1 → x ≡ freshRecord m r n free
     → record { answer = a; state = state left′ right′ colour′ x }
     ≡ loadBy m r (l ∷ g ∷ []) (left ∷ right ∷ []) colour b
 unfolding loadBy
-load-done m r l g left right colour left′ right′ colour′ a b n x q h p k w e u v =
-    rw (← q, p, k, e, w, v, u) (pick-yes _ _ _ _ (eq-yes _ _ h) refl)
+load-done m r l g left right colour left′ right′ colour′ a b n free x q h p k w e u f v =
+    rw (← q, p, k, e, w, v, u, f) (pick-yes _ _ _ _ (eq-yes _ _ h) refl)
 
 -- 13, or the chain's end
 module _ (m r : ℕ) (es : List (List ℕ)) (free num : List ℕ) (a : Answer) (n : ℕ) (h : codeOf a ≡ 0)
@@ -52,6 +54,14 @@ module _ (m r : ℕ) (es : List (List ℕ)) (free num : List ℕ) (a : Answer) (
   unfolding judgeFree
   judge-whole l =
       rw (← q, ← e) (pick-yes _ _ _ _ (eq-yes _ _ h) (pick-no _ _ _ _ (lt-no _ _ l) refl))
+
+-- where the lists are accepted, the chain is not broken
+pub judge-passed : (m r : ℕ) (es : List (List ℕ)) (c : Chained) (a : Answer)
+    → a ≡ judgeFree m r es c → codeOf a ≡ 0 → codeOf (c .answer) ≡ 0
+unfolding judgeFree
+judge-passed m r es c a e h =
+    split (λ (b : Answer). codeOf b ≡ 0 → codeOf (c .answer) ≡ 0) _ _ _
+    (λ q z. eqb-true _ _ q) (λ q z. z) (rw e at h)
 
 -- 1, 11, or what is judged where edges are good
 module _ (m r : ℕ) (given edges : List (List ℕ)) (colours : List ℕ) (o : Outcome) where

@@ -1,7 +1,7 @@
 -- Laws for Load's loops: one turn of the walk along the free chain, and a list copied from the
 -- front.
 use Prim.Native.Nat.{ℕ, suc, _+_, _-_, _≤_, _<_}
-use mathlib.Core.Path.{_≡_, sym, ap, _∙_}
+use mathlib.Core.Path.{_≡_, refl, sym, ap, _∙_}
 use mathlib.Core.Bool.{Bool, true, false, _||_}
 use mathlib.Core.List.{List, [], _∷_}
 use native.Mathlib.Numerals.{add-one}
@@ -10,8 +10,9 @@ use lib.ListN.{length, getD, set, take, length-take}
 use lib.Seq.{take-suc, take-suc-set, take-length}
 use lib.Dec.{ltb, eqb}
 use Rattle.base.specs.Choice.{pick}
+use Rattle.base.proofs.Tests.{pick-yes, pick-no, eq-yes, eq-no}
 use Rattle.rules.specs.Table.{edgeOf}
-use Rattle.rules.specs.Load.{chained, chain}
+use Rattle.rules.specs.Load.{chained, chain, chainLength}
 use Rattle.rules.specs.declared.Answer.the-variants.{Started, Refused}
 
 module _ (r : ℕ) (l g : List ℕ) (m k : ℕ) (free : List ℕ) (n : ℕ) where
@@ -38,6 +39,35 @@ module _ (r : ℕ) (l g : List ℕ) (m k : ℕ) (free : List ℕ) (n : ℕ) wher
   chain-start =
       let q : m - 0 ≡ m = omega arith in
       rw q
+
+-- the length of the chain: k nodes, and those that follow n
+module _ (l g : List ℕ) (m k n : ℕ) where
+  pub length-start : chainLength (l ∷ g ∷ []) m n ≡ 0 + chainLength (l ∷ g ∷ []) (m - 0) n
+  length-start =
+      let q : m - 0 ≡ m = omega arith in
+      rw q (omega arith)
+
+  -- c is that length
+  module _ (c : ℕ) (e : c ≡ k + chainLength (l ∷ g ∷ []) (m - k) n) (h : k < m) where
+    length-turn : chainLength (l ∷ g ∷ []) (m - k) n
+        ≡ pick (eqb (getD l n 0) 0) 0 (chainLength (l ∷ g ∷ []) (m - (k + 1)) (getD l n 0) + 1)
+    unfolding chainLength edgeOf
+    length-turn =
+        let q : m - k ≡ suc (m - (k + 1)) = omega arith in
+        rw q
+
+    pub length-end : getD l n 0 ≡ 0 → k ≡ c
+    length-end q =
+        let z = pick-yes 0 _ (chainLength (l ∷ g ∷ []) (m - (k + 1)) (getD l n 0) + 1) _
+        (eq-yes _ _ q) refl in
+        omega (arith, e, length-turn, z)
+
+    pub length-next : (getD l n 0 ≡ 0 → ⊥)
+        → c ≡ k + 1 + chainLength (l ∷ g ∷ []) (m - (k + 1)) (getD l n 0)
+    length-next q =
+        let z = pick-no (chainLength (l ∷ g ∷ []) (m - (k + 1)) (getD l n 0) + 1) 0 _ _
+        (eq-no _ _ q) refl in
+        omega (arith, e, length-turn, z)
 
 -- the last of some tests
 pub or-last : (z b : Bool) → z ≡ b → z ≡ (b || false)

@@ -9,10 +9,17 @@ ghost use lib.ListN.{length, take};
 ghost use Rattle.rules.specs.Table.{mostNodes, mostSlots, handed, refused};
 ghost use Rattle.rules.specs.Meet.{blank, anyEdge};
 ghost use Rattle.rules.specs.Load.{loadSizeOf, badGiven, firstBad, chained, chain};
-ghost use Rattle.rules.specs.Load.{isShared, firstShared, judgeFree, loadBy, load};
+ghost use Rattle.rules.specs.Load.{chainLength, isShared, firstShared, judgeFree, loadBy, load};
+ghost use Rattle.rules.specs.Steps.{codeOf};
 ghost use Rattle.load.specs.GoodEdges.{Below, loadGood};
 ghost use Rattle.base.specs.Lent.{was, is};
 ghost use Rattle.rules.specs.Lent.{leaves};
+
+// What the lists are answered with, and how many nodes are free where they are accepted.
+struct Found {
+    answer: Answer,
+    free: u16,
+}
 
 // Code 1: the sizes of Fresh, and each list has M entries.
 fn size_ok(
@@ -93,39 +100,56 @@ fn narrow(given: &[u32], edges: &mut [u16; rules::MOST_NODES])
     }
 }
 
-// Code 12: the free chain's end, or the first node that breaks it. The free nodes are marked.
-fn chain(left: &[u16], right: &[u16], free: &mut [u8; rules::MOST_NODES], m: u16, r: u16) -> Answer
+// Refused, since node n breaks the free chain.
+fn broken(n: u16) -> Found
+    ensures { λ d. ⌜ d .answer ≡ refused 12 n ⌝ }
+{
+    Found {
+        answer: Answer::refused(12, n),
+        free: 0,
+    }
+}
+
+// Code 12: the free chain's end, or the first node that breaks it. The free nodes are marked. The
+// walk has come to k of them.
+fn chain(left: &[u16], right: &[u16], free: &mut [u8; rules::MOST_NODES], m: u16, r: u16) -> Found
     requires { ⌜ 2 ≤ m ⌝ }
     requires { ⌜ m ≤ mostNodes ⌝ }
     requires { ⌜ r ≤ mostSlots ⌝ }
     requires { ⌜ length (now left) ≡ m ⌝ }
     requires { ⌜ length (now right) ≡ m ⌝ }
     requires { ⌜ Below m (now left) ⌝ }
-    ensures { λ a. ⌜ chained (is free) a ≡ chain r (was left ∷ was right ∷ []) m (was free) 1 ⌝ }
+    ensures { λ d. ⌜ chained (is free) (d .answer)
+        ≡ chain r (was left ∷ was right ∷ []) m (was free) 1 ⌝ }
+    ensures { λ d. ⌜ (codeOf (d .answer) ≡ 0
+        → d .free ≡ chainLength (was left ∷ was right ∷ []) m 1) ⌝ }
 {
     let mut n = 1;
     let mut k = 0;
     while k < m {
         let at = n as usize;
         if right[at] != 0 {
-            return Answer::refused(12, n);
+            return broken(n);
         }
         let next = left[at];
         if next == 0 {
-            return Answer::Started(n);
+            return Found {
+                answer: Answer::Started(n),
+                free: k,
+            };
         }
         if next < r + 2 {
-            return Answer::refused(12, n);
+            return broken(n);
         }
         let to = next as usize;
         if free[to] != 0 {
-            return Answer::refused(12, n);
+            return broken(n);
         }
         free[to] = 1;
         n = next;
         k += 1;
     }
-    Answer::refused(12, n)
+    broken(n)
 }
 
 // Whether node n is free and has a number.
@@ -185,19 +209,24 @@ fn judge_free(
 }
 
 // Codes 12 and 13, for edges that are good.
-fn judge(left: &[u16], right: &[u16], m: u16, r: u16) -> Answer
+fn judge(left: &[u16], right: &[u16], m: u16, r: u16) -> Found
     requires { ⌜ 2 ≤ m ⌝ }
     requires { ⌜ m ≤ mostNodes ⌝ }
     requires { ⌜ r ≤ mostSlots ⌝ }
     requires { ⌜ length (now left) ≡ m ⌝ }
     requires { ⌜ length (now right) ≡ m ⌝ }
     requires { ⌜ Below m (now left) ⌝ }
-    ensures { λ a. ⌜ a ≡ judgeFree m r (was left ∷ was right ∷ [])
+    ensures { λ d. ⌜ d .answer ≡ judgeFree m r (was left ∷ was right ∷ [])
         (chain r (was left ∷ was right ∷ []) m blank 1) ⌝ }
+    ensures { λ d. ⌜ (codeOf (d .answer) ≡ 0
+        → d .free ≡ chainLength (was left ∷ was right ∷ []) m 1) ⌝ }
 {
-    let mut free = [0u8; rules::MOST_NODES];
-    let found = chain(left, right, &mut free, m, r);
-    judge_free(left, right, &free, m, r, found)
+    let mut marks = [0u8; rules::MOST_NODES];
+    let found = chain(left, right, &mut marks, m, r);
+    let end = found.answer;
+    let answer = judge_free(left, right, &marks, m, r, end);
+    let free = found.free;
+    Found { answer, free }
 }
 
 fn copy(given: &[u16], edges: &mut [u16])
@@ -235,12 +264,13 @@ fn load_table(
         (was left ∷ was right ∷ []) (was colour) ⌝ }
     ensures { λ d. ⌜ d .changed ≡ 0 ⌝ }
 {
-    let answer = judge(lefts, rights, m, r);
+    let found = judge(lefts, rights, m, r);
+    let answer = found.answer;
     if answer.code() != 0 {
         return Made {
             answer,
             changed: 0,
-            rec: Record::fresh(0, 0, 0),
+            rec: Record::fresh(0, 0, 0, 0),
         };
     }
     copy(lefts, left);
@@ -249,7 +279,7 @@ fn load_table(
     Made {
         answer,
         changed: 0,
-        rec: Record::fresh(m, r, answer.node()),
+        rec: Record::fresh(m, r, answer.node(), found.free),
     }
 }
 
@@ -293,7 +323,7 @@ fn refused(code: u8, node: u16) -> Made
         → handed d edges colours ≡ loadBy m r given edges colours (refused code node)) ⌝ }
     ensures { λ d. ⌜ d .changed ≡ 0 ⌝ }
 {
-    rules::refusal(code, node, Record::fresh(0, 0, 0))
+    rules::refusal(code, node, Record::fresh(0, 0, 0, 0))
 }
 
 // A table of m nodes and r slots with the edges of two lists, and its record.

@@ -8,7 +8,7 @@ use Rattle.schedule.proofs.PartOfRun.{schedule-run}
 use Rattle.runs.specs.Start.{by-fresh, by-load}
 use Rattle.promises.specs.CallRuns.{Lent, lend, stateOf, Demand-calls}
 use Rattle.promises.specs.Calls.{Call, Fresh, Load, Look, Link, Shade, Take, Collect, Any}
-use Rattle.promises.specs.Calls.{CollectInPlace, Schedule, CollectMany, InUse}
+use Rattle.promises.specs.Calls.{CollectInPlace, Schedule, CollectMany, InUse, FreeCount}
 use Rattle.promises.specs.Calls.{left-by, deedOf, rattle}
 use Rattle.promises.proofs.CallRuns as R
 
@@ -29,6 +29,7 @@ goes (Any a) h = λ u. refl
 goes CollectInPlace h = λ u. refl
 goes (Schedule cs) h = λ u. ap (lend (λ x. x)) (schedule-run cs (stateOf rattle h))
 goes InUse h = λ u. refl
+goes FreeCount h = λ u. refl
 goes (CollectMany n) h = λ u. ap (lend (λ x. x)) (schedule-run (collects n) (stateOf rattle h))
 
 pub rattle-calls : Demand-calls rattle

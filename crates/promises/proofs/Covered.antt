@@ -15,9 +15,10 @@ use Rattle.take.proofs.take.Reads as take
 use Rattle.collector.proofs.collect.Reads as collect
 use Rattle.calls.proofs.step.Reads as step
 use Rattle.in_use.proofs.in_use.Reads as in-use
+use Rattle.free_count.proofs.free_count.Reads as free-count
 use Rattle.promises.specs.CallRuns.{lent, lend}
 use Rattle.promises.specs.Calls.{Fresh, Load, Look, Link, Shade, Take, Collect, Any}
-use Rattle.promises.specs.Calls.{InUse, left-by, rattle}
+use Rattle.promises.specs.Calls.{InUse, FreeCount, left-by, rattle}
 
 -- the slices and the record of an outcome
 pub lent-by : {o p : Outcome} → o ≡ p → lend (λ x. x) (o .state) ≡ lend (λ x. x) (p .state)
@@ -93,3 +94,11 @@ pub in-use-leaves : (κs : _) (a : _) (r : _) (s : _) → in-use.Learnt κs a r 
     (lent (now (a .0)) (now (a .1 .0)) (now (a .1 .1 .0)) (a .1 .1 .1 .0))
 unfolding left-by
 in-use-leaves κs a r s e = refl
+
+-- nor does Free count
+pub free-count-leaves : (κs : _) (a : _) (r : _) (s : _) → free-count.Learnt κs a r s
+    → lent (now (a .0)) (now (a .1 .0)) (now (a .1 .1 .0)) (a .1 .1 .1 .0)
+    ≡ rattle .leaves FreeCount
+    (lent (now (a .0)) (now (a .1 .0)) (now (a .1 .1 .0)) (a .1 .1 .1 .0))
+unfolding left-by
+free-count-leaves κs a r s e = refl

@@ -14,6 +14,7 @@ use Rattle.take.proofs.take.Reads as take
 use Rattle.collector.proofs.collect.Reads as collect
 use Rattle.calls.proofs.step.Reads as step
 use Rattle.in_use.proofs.in_use.Reads as in-use
+use Rattle.free_count.proofs.free_count.Reads as free-count
 
 -- two things that equal one are equal
 pub determined : {A : Type 0} {a b c : A} → a ≡ c → b ≡ c → a ≡ b
@@ -76,7 +77,11 @@ pub step-determined : (κs : _) (a : _) (r r′ : _) (s s′ : _) → step.Learn
     ≡ outcome r′ (now (s′ .0)) (now (s′ .1 .0)) (now (s′ .1 .1 .0))) × (r .changed ≡ r′ .changed)
 step-determined κs a r r′ s s′ = both
 
--- In use lends no slice to be changed, and hands back an answer only
+-- In use and Free count lend no slice to be changed, and hand back an answer only
 pub in-use-determined : (κs : _) (a : _) (r r′ : _) (s s′ : _) → in-use.Learnt κs a r s
     → in-use.Learnt κs a r′ s′ → r ≡ r′
 in-use-determined κs a r r′ s s′ = determined
+
+pub free-count-determined : (κs : _) (a : _) (r r′ : _) (s s′ : _) → free-count.Learnt κs a r s
+    → free-count.Learnt κs a r′ s′ → r ≡ r′
+free-count-determined κs a r r′ s s′ = determined

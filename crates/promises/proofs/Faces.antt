@@ -10,6 +10,7 @@ use Rattle.jenturik_c.proofs.jenturik_fresh.Reads as c-fresh
 use Rattle.jenturik_c.proofs.jenturik_load.Reads as c-load
 use Rattle.jenturik_c.proofs.jenturik_look.Reads as c-look
 use Rattle.jenturik_c.proofs.jenturik_in_use.Reads as c-in-use
+use Rattle.jenturik_c.proofs.jenturik_free_count.Reads as c-free-count
 use Rattle.jenturik_c.proofs.jenturik_link.Reads as c-link
 use Rattle.jenturik_c.proofs.jenturik_shade.Reads as c-shade
 use Rattle.jenturik_c.proofs.jenturik_take.Reads as c-take
@@ -19,8 +20,9 @@ use Rattle.jenturik_c.proofs.jenturik_schedule.Reads as c-schedule
 use Rattle.bench_steps.specs.Steps.{stepped}
 use Rattle.bench_steps.proofs.jenturik_steps.Reads as c-steps
 use Rattle.promises.specs.CallRuns.{lent}
-use Rattle.promises.specs.Words.{Fresh, Load, Look, InUse, Link, Shade, Take, Collect}
-use Rattle.promises.specs.Words.{CollectMany, Schedule, left-in, left-in-run, left-by, words}
+use Rattle.promises.specs.Words.{Fresh, Load, Look, InUse, FreeCount, Link, Shade, Take}
+use Rattle.promises.specs.Words.{Collect, CollectMany, Schedule, left-in, left-in-run}
+use Rattle.promises.specs.Words.{left-by, words}
 use Rattle.promises.proofs.Determined.{determined}
 
 pub c-fresh-determined : (κs : _) (a : _) (r r′ : _) (s s′ : _)
@@ -52,6 +54,13 @@ pub c-in-use-determined : (κs : _) (a : _) (r r′ : _) (s s′ : _)
     → c-in-use.Learnt κs a r s → c-in-use.Learnt κs a r′ s′
     → (answeredOf r ≡ answeredOf r′) × (r .changed ≡ r′ .changed)
 c-in-use-determined κs a r r′ s s′ p q =
+    (ap (λ (f : Faced). f .told) (determined (p .0) (q .0)), determined (p .1) (q .1))
+
+-- nor does Free count
+pub c-free-count-determined : (κs : _) (a : _) (r r′ : _) (s s′ : _)
+    → c-free-count.Learnt κs a r s → c-free-count.Learnt κs a r′ s′
+    → (answeredOf r ≡ answeredOf r′) × (r .changed ≡ r′ .changed)
+c-free-count-determined κs a r r′ s s′ p q =
     (ap (λ (f : Faced). f .told) (determined (p .0) (q .0)), determined (p .1) (q .1))
 
 pub c-link-determined : (κs : _) (a : _) (r r′ : _) (s s′ : _)
@@ -152,6 +161,13 @@ pub c-in-use-leaves : (κs : _) (a : _) (r : _) (s : _) → c-in-use.Learnt κs 
     (lent (now (a .0)) (now (a .1 .0)) (now (a .1 .1 .0)) (now (a .1 .1 .1 .0)))
 unfolding left-by
 c-in-use-leaves κs a r s p = ap left-in (p .0)
+
+pub c-free-count-leaves : (κs : _) (a : _) (r : _) (s : _) → c-free-count.Learnt κs a r s
+    → lent (now (a .0)) (now (a .1 .0)) (now (a .1 .1 .0)) (now (a .1 .1 .1 .0))
+    ≡ words .leaves FreeCount
+    (lent (now (a .0)) (now (a .1 .0)) (now (a .1 .1 .0)) (now (a .1 .1 .1 .0)))
+unfolding left-by
+c-free-count-leaves κs a r s p = ap left-in (p .0)
 
 pub c-link-leaves : (κs : _) (a : _) (r : _) (s : _) → c-link.Learnt κs a r s
     → lent (now (s .0)) (now (s .1 .0)) (now (a .1 .1 .0)) (now (s .1 .1 .1 .0))

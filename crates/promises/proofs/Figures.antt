@@ -8,8 +8,8 @@ use lib.ListN.{getD}
 use Rattle.base.specs.Choice.{pick, every, first}
 use Rattle.rules.specs.Table.{State, Outcome, unless, edgeOf, withEdge, cleared, shadeIn, badEdge}
 use Rattle.rules.specs.Records.{oneMore, afterAppend}
-use Rattle.rules.specs.Check.{sizeOk, positionOk, secondOk, phaseOk, owedOk, lastOk, bound}
-use Rattle.rules.specs.Check.{cycleOk, toldOk, countsOk, recordOk, checkOf}
+use Rattle.rules.specs.Check.{sizeOk, positionOk, secondOk, phaseOk, owedOk, lastOk, freeOk}
+use Rattle.rules.specs.Check.{bound, cycleOk, toldOk, countsOk, recordOk, checkOf}
 use Rattle.rules.specs.Fresh.{tabulate, nextFree, freshLeft, freshLast, freshState, fresh}
 use Rattle.rules.specs.Places.{sidesOk, turnsOk, placeCode, walkFrom, arrive}
 use Rattle.rules.specs.Editor.{sideCode, owedCode, look, depart, linkTo, link, pay, shadeOwed}
@@ -22,6 +22,7 @@ use Rattle.rules.specs.Steps.{nodeOf}
 use Rattle.rules.specs.Schedules.{collects}
 use Rattle.rules.specs.Meet.{blank, visit, visitSlots, visitEdges, visitFrom, meet, lowest, anyEdge}
 use Rattle.rules.specs.InUse.{isHurt, firstHurt, countMet, inUse}
+use Rattle.rules.specs.FreeCount.{freeCount}
 use Rattle.rules.specs.declared.Place.{Place}
 use Rattle.rules.specs.declared.Step.{Step}
 use Rattle.rules.specs.declared.Answer.{Answer}
@@ -152,6 +153,12 @@ table =
     ((quiet .rec .lastblackened ∷ []) ∷ shown (inUse quiet) ∷ shown
     (inUse (run (taking (at 0 0) 0 ∷ []) quiet)) ∷ [])
     ((5 ∷ []) ∷ (0 ∷ 0 ∷ []) ∷ (0 ∷ 1 ∷ []) ∷ []) ∷
+    -- [Free count 1] in the table of [Figures 3]: when it is fresh, after the edits, which take both
+    -- free nodes, and after the collector's step 62, which appends one; and of [Figures 1]
+    figure
+    (shown (freeCount five) ∷ shown (freeCount (worked 0)) ∷ shown (freeCount (worked 62)) ∷ shown
+    (freeCount three) ∷ [])
+    ((0 ∷ 2 ∷ []) ∷ (0 ∷ 0 ∷ []) ∷ (0 ∷ 1 ∷ []) ∷ (0 ∷ 0 ∷ []) ∷ []) ∷
     []
 
 -- in each row what is computed is what is told
@@ -161,9 +168,10 @@ Agrees (f ∷ fs) = (f .computed ≡ f .told) × Agrees fs
 
 pub figures : Agrees table
 unfolding pick every first unless edgeOf withEdge cleared shadeIn badEdge oneMore afterAppend sizeOk
-    positionOk secondOk phaseOk owedOk lastOk bound cycleOk toldOk countsOk recordOk checkOf tabulate nextFree freshLeft
-    freshLast freshState fresh sidesOk turnsOk placeCode walkFrom arrive sideCode owedCode look
-    depart linkTo link pay shadeOwed badFree relink takeNext takeFirst take shadeStep afterRoots
-    scanStep edgeStep blackStep append appendWhite appendStep phaseStep collect step run collects
-    blank visit visitSlots visitEdges visitFrom meet lowest anyEdge isHurt firstHurt countMet inUse
-figures = (refl, (refl, (refl, (refl, (refl, (refl, (refl, (refl, (refl, tt)))))))))
+    positionOk secondOk phaseOk owedOk lastOk freeOk bound cycleOk toldOk countsOk recordOk checkOf
+    tabulate nextFree freshLeft freshLast freshState fresh sidesOk turnsOk placeCode walkFrom arrive sideCode owedCode
+    look depart linkTo link pay shadeOwed badFree relink takeNext takeFirst take shadeStep
+    afterRoots scanStep edgeStep blackStep append appendWhite appendStep phaseStep collect step run
+    collects blank visit visitSlots visitEdges visitFrom meet lowest anyEdge isHurt firstHurt
+    countMet inUse freeCount
+figures = (refl, (refl, (refl, (refl, (refl, (refl, (refl, (refl, (refl, (refl, tt))))))))))

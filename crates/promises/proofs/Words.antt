@@ -11,6 +11,7 @@ use Rattle.rules.specs.Table.{State, mostNodes, mostSlots}
 use Rattle.rules.specs.Phases.{tagOf, position, second}
 use Rattle.rules.specs.Check.{bound}
 use Rattle.rules.specs.InUse.{inUse}
+use Rattle.rules.specs.FreeCount.{freeCount}
 use Rattle.rules.specs.Steps.{run, taking, linking, shading, collecting, looking}
 use Rattle.rules.specs.Schedules.{Followed, schedule, collects}
 use Rattle.rules.specs.Facts.{Inside, InRange, Owable}
@@ -25,7 +26,7 @@ use Rattle.rules.proofs.Sizes.{square}
 use Rattle.record_words.specs.Words.{owedOf, wordsOf, isRecord}
 use Rattle.record_words.proofs.RoundTrip.{record-back}
 use Rattle.record_words.proofs.Widths.{words-are, owes-most}
-use Rattle.jenturik_c.specs.Face.{face, asking}
+use Rattle.jenturik_c.specs.Face.{face}
 use Rattle.jenturik_c.specs.Flat.{stepsOf, scheduleOf}
 use Rattle.jenturik_c.proofs.Kept.{Follows, schedule-follows, words-follow, done-kept}
 use Rattle.runs.specs.Runs.{Count}
@@ -33,9 +34,9 @@ use Rattle.runs.specs.Start.{by-fresh, by-load}
 use Rattle.runs.proofs.Sound.{checked}
 use Rattle.runs.proofs.Counting.{Carried}
 use Rattle.promises.specs.CallRuns.{Lent, lend, stateOf, Demand-calls}
-use Rattle.promises.specs.Words.{left-in, left-in-run, once, many, left-by, deedOf, words}
-use Rattle.promises.specs.Words.{Call, Fresh, Load, Look, InUse, Link, Shade, Take}
-use Rattle.promises.specs.Words.{Collect, CollectMany, Schedule}
+use Rattle.promises.specs.Words.{left-in, left-in-run, once, asked, many, left-by, deedOf}
+use Rattle.promises.specs.Words.{words, Call, Fresh, Load, Look, InUse, FreeCount, Link}
+use Rattle.promises.specs.Words.{Shade, Take, Collect, CollectMany, Schedule}
 use Rattle.promises.proofs.CallRuns as R
 
 -- numbers inside a table have their widths
@@ -83,9 +84,7 @@ module _ (h : Lent (List ℕ)) (u : Fit (h .kept)) where
   once-run a = ap left-in (sym (pick-yes _ _ _ _ u refl))
 
   -- a call that only answers is no step
-  asked-run : (f : State → Answer)
-      → left-in (face (asking f) (h .left) (h .right) (h .colour) (h .kept))
-      ≡ lend wordsOf (run [] s)
+  asked-run : (f : State → Answer) → asked f h ≡ lend wordsOf (run [] s)
   unfolding face run
   asked-run f = ap left-in (sym (pick-yes _ _ _ _ u refl))
 
@@ -100,6 +99,7 @@ goes (Fresh m r) h = λ z. (_, by-fresh _ _ refl refl z, refl)
 goes (Load m r lefts rights) h = λ z. (_, by-load _ _ _ refl refl z, refl)
 goes (Look p) h = λ u. once-run h u (looking p)
 goes InUse h = λ u. asked-run h u inUse
+goes FreeCount h = λ u. asked-run h u freeCount
 goes (Link p side q) h = λ u. once-run h u (linking p side q)
 goes Shade h = λ u. once-run h u shading
 goes (Take p side) h = λ u. once-run h u (taking p side)

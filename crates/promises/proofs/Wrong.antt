@@ -14,10 +14,10 @@ use Rattle.rules.specs.Table.{edgeOf, edge, withEdge, cleared, colourOf, withCo
 use Rattle.rules.specs.Table.{badEdge}
 use Rattle.rules.specs.Phases.{blackTag, appendTag, tagOf, position, second}
 use Rattle.rules.specs.Records.{freshRecord, withPhase, withOwed, withLast, withSteps}
-use Rattle.rules.specs.Records.{withLastBlackened}
-use Rattle.rules.specs.Records.{owing, moved, marked, rescan, oneMore, afterAppend}
-use Rattle.rules.specs.Check.{sizeOk, positionOk, secondOk, phaseOk, owedOk, lastOk, bound}
-use Rattle.rules.specs.Check.{cycleOk, toldOk, countsOk, recordOk, checkOf, check}
+use Rattle.rules.specs.Records.{withLastBlackened, withFree, moreFree, owing, moved, marked, rescan}
+use Rattle.rules.specs.Records.{oneMore, afterAppend}
+use Rattle.rules.specs.Check.{sizeOk, positionOk, secondOk, phaseOk, owedOk, lastOk, freeOk}
+use Rattle.rules.specs.Check.{bound, cycleOk, toldOk, countsOk, recordOk, checkOf, check}
 use Rattle.rules.specs.Fresh.{tabulate, nextFree, freshLeft, freshLast, freshState, fresh}
 use Rattle.rules.specs.Places.{sidesOk, turnsOk, placeCode, walkFrom, walk, arrive}
 use Rattle.rules.specs.Editor.{sideCode, owedCode, look, depart, linkTo, link, pay, shadeOwed}
@@ -112,6 +112,10 @@ keepsRight =
 abbrev keepsLast : Step → State → Outcome
 keepsLast = kind 0 (λ a s. inRecord (λ x. withLast x (s .rec .last)) (step a s))
 
+-- Take that leaves the free count [Take 10]
+abbrev keepsFree : Step → State → Outcome
+keepsFree = kind 0 (λ a s. inRecord (λ x. withFree x (s .rec .free)) (step a s))
+
 -- Take that leaves f, or g, unshaded: the colour is what it was
 abbrev unshaded : State → Outcome → ℕ → Outcome
 unshaded s o n = record { answer = o .answer; state = withColour (o .state) n (colourOf s n) }
@@ -138,7 +142,7 @@ absentLate = kind 1 (λ a s. arrive s (walk s (target a)) (λ t. step a s))
 -- Append that passes last if it is white [Damage 4]
 abbrev appendsLast : ℕ → State → Outcome
 appendsLast i s = pick (eqb i (s .rec .last))
-    (did (Appended i) (append s i) (afterAppend (withLast (s .rec) i) i)) (collect s)
+    (did (Appended i) (append s i) (afterAppend (moreFree (withLast (s .rec) i)) i)) (collect s)
 
 abbrev missesLast : Step → State → Outcome
 missesLast = kind 3 (λ a s. inPhase appendTag appendsLast s)
@@ -151,21 +155,31 @@ abbrev mildOwed : Owed → ℕ → Bool
 mildOwed Nothing m = leb 0 m
 mildOwed (Node n) m = ltb n m
 
--- without owed 1; without last in the slots; without steps at B
+-- the tests of the phase and of the free count, and these others
+abbrev besides : Record → List Bool → Bool
+besides x others =
+    every (phaseOk (x .m) (x .r) (x .phase) ∷ freeOk (x .m) (x .r) (x .last) (x .free) ∷ others)
+
+-- without owed 1; without last in the slots; without steps at B; without any test of the free count
 abbrev withoutOwed : Record → Bool
 withoutOwed x =
-    every (phaseOk (x .m) (x .r) (x .phase) ∷ mildOwed (x .owed) (x .m) ∷ lastOk (x .m) (x .r)
-    (x .last) ∷ countsOk x (bound 2 (x .m) (x .r)) ∷ [])
+    besides x (mildOwed (x .owed) (x .m) ∷ lastOk (x .m) (x .r) (x .last) ∷ countsOk x
+    (bound 2 (x .m) (x .r)) ∷ [])
 
 abbrev withoutLast : Record → Bool
 withoutLast x =
-    every (phaseOk (x .m) (x .r) (x .phase) ∷ owedOk (x .m) (x .owed) ∷ ltb (x .last)
-    (x .m) ∷ countsOk x (bound 2 (x .m) (x .r)) ∷ [])
+    besides x (owedOk (x .m) (x .owed) ∷ ltb (x .last) (x .m) ∷ countsOk x
+    (bound 2 (x .m) (x .r)) ∷ [])
 
 abbrev withoutSteps : Record → Bool
 withoutSteps x =
+    besides x (owedOk (x .m) (x .owed) ∷ lastOk (x .m) (x .r) (x .last) ∷ countsOk x
+    (bound 2 (x .m) (x .r) + 1) ∷ [])
+
+abbrev withoutFree : Record → Bool
+withoutFree x =
     every (phaseOk (x .m) (x .r) (x .phase) ∷ owedOk (x .m) (x .owed) ∷ lastOk (x .m) (x .r)
-    (x .last) ∷ countsOk x (bound 2 (x .m) (x .r) + 1) ∷ [])
+    (x .last) ∷ countsOk x (bound 2 (x .m) (x .r)) ∷ [])
 
 -- ---- states: runs from a fresh table where a run leads there, else invented
 abbrev one : State
@@ -181,9 +195,13 @@ litter =
     (run (taking (at 0 0) 0 ∷ taking (at 1 0) 1 ∷ linking (at 0 0) 0 (at 1 1) ∷ shading ∷ [])
     five)
 
--- a record of five nodes at a phase
+-- a record of five nodes at a phase; its free count is 2
 abbrev made : Phase → Owed → ℕ → ℕ → Record
-made p o last steps = withSteps (withOwed (withPhase (freshRecord 5 1 last) p) o) steps
+made p o last steps = withSteps (withOwed (withPhase (freshRecord 5 1 last 2) p) o) steps
+
+-- with this free count
+abbrev frees : ℕ → Record
+frees n = withFree (made (Roots 0) Nothing 4 0) n
 
 abbrev invented : Record → State
 invented x = state (0 ∷ 3 ∷ 0 ∷ 4 ∷ 0 ∷ []) (0 ∷ 0 ∷ 9 ∷ 0 ∷ 0 ∷ []) (0 ∷ 0 ∷ 0 ∷ 0 ∷ 0 ∷ []) x
@@ -239,6 +257,7 @@ table =
     row blackensTarget (linking (at 0 0) 0 (at 1 1)) two (colour 4) 2 1 ∷
     row keepsRight collecting litter (λ o. edge (o .state) right 3) 4 0 ∷
     row keepsLast (taking (at 0 0) 1) one (λ o. o .state .rec .last) 4 1 ∷
+    row keepsFree (taking (at 0 0) 0) five (λ o. o .state .rec .free) 2 1 ∷
     row leavesFirst (taking (at 0 0) 0) five (colour 3) 0 1 ∷
     row leavesNext (taking (at 0 0) 0) five (colour 4) 0 1 ∷
     row owedEarly (linking (at 0 0) 0 elsewhere) (run (linking (at 0 0) 0 (at 0 0) ∷ []) five) code
@@ -248,6 +267,8 @@ table =
     row (asks withoutOwed) collecting (invented (made (Roots 0) (Node 1) 4 0)) code 0 2 ∷
     row (asks withoutLast) collecting (invented (made (Roots 0) Nothing 2 0)) code 0 2 ∷
     row (asks withoutSteps) collecting (invented (made (Roots 0) Nothing 4 53)) code 0 2 ∷
+    row (asks withoutFree) collecting (invented (frees 3)) code 0 2 ∷
+    row (asks withoutFree) collecting (invented (frees 0)) code 0 2 ∷
     []
 
 -- whether in a row the wrong step gives the one number, the promised one the other, and they differ
@@ -267,8 +288,9 @@ not-promised r c e =
 
 pub ruled-out : every (map caught table) ≡ true
 unfolding pick every first unless edgeOf withEdge cleared shadeIn badEdge oneMore afterAppend sizeOk
-    positionOk secondOk phaseOk owedOk lastOk bound cycleOk toldOk countsOk recordOk checkOf tabulate nextFree freshLeft
-    freshLast freshState fresh sidesOk turnsOk placeCode walkFrom arrive sideCode owedCode look
-    depart linkTo link pay shadeOwed badFree relink takeNext takeFirst take shadeStep afterRoots
-    scanStep edgeStep blackStep append appendWhite appendStep phaseStep collect step run collects
+    positionOk secondOk phaseOk owedOk lastOk freeOk bound cycleOk toldOk countsOk recordOk checkOf
+    tabulate nextFree freshLeft freshLast freshState fresh sidesOk turnsOk placeCode walkFrom arrive sideCode owedCode
+    look depart linkTo link pay shadeOwed badFree relink takeNext takeFirst take shadeStep
+    afterRoots scanStep edgeStep blackStep append appendWhite appendStep phaseStep collect step run
+    collects
 ruled-out = refl

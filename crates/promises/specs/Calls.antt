@@ -35,8 +35,10 @@ pub data Call : Type 0 where
   CollectMany : ℕ → Call
   -- in_use::in_use
   InUse : Call
+  -- free_count::free_count
+  FreeCount : Call
 
--- the state that a call leaves; [In use 3] In use leaves it as it is
+-- the state that a call leaves; [In use 3] In use leaves it as it is, and so does Free count
 unfoldable pub left-by : Call → State → State
 left-by (Fresh m r) s = fresh m r (s .edges) (s .colour) .state
 left-by (Load m r lefts rights) s =
@@ -51,6 +53,7 @@ left-by CollectInPlace s = step collecting s .state
 left-by (Schedule cs) s = schedule cs s .state
 left-by (CollectMany n) s = schedule (collects n) s .state
 left-by InUse s = s
+left-by FreeCount s = s
 
 -- the steps that a call makes: of many, as many as were done; a refused one is done by itself only
 unfoldable pub deedOf : Call → State → Deed
@@ -67,6 +70,7 @@ deedOf CollectInPlace s = makes (collecting ∷ [])
 deedOf (Schedule cs) s = makes (take (schedule cs s .done) cs)
 deedOf (CollectMany n) s = makes (take (schedule (collects n) s .done) (collects n))
 deedOf InUse s = makes []
+deedOf FreeCount s = makes []
 
 abbrev pub rattle : Face Call Record
 rattle = record {

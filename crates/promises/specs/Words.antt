@@ -6,10 +6,12 @@ use Rattle.rules.specs.Table.{State}
 use Rattle.rules.specs.Fresh.{fresh}
 use Rattle.rules.specs.Load.{load}
 use Rattle.rules.specs.InUse.{inUse}
+use Rattle.rules.specs.FreeCount.{freeCount}
 use Rattle.rules.specs.Steps.{step, taking, linking, shading, collecting, looking, codeOf}
 use Rattle.rules.specs.Schedules.{Followed, schedule, collects}
 use Rattle.rules.specs.declared.Place.{Place}
 use Rattle.rules.specs.declared.Step.{Step}
+use Rattle.rules.specs.declared.Answer.{Answer}
 use Rattle.record_words.specs.Words.{recordOf}
 use Rattle.jenturik_c.specs.Face.{Faced, face, shown, asking}
 use Rattle.jenturik_c.specs.Flat.{stepsOf, scheduleOf}
@@ -23,6 +25,7 @@ pub data Call : Type 0 where
   Load : ℕ → ℕ → List ℕ → List ℕ → Call
   Look : Place → Call
   InUse : Call
+  FreeCount : Call
   Link : Place → ℕ → Place → Call
   Shade : Call
   Take : Place → ℕ → Call
@@ -44,12 +47,17 @@ once a h = left-in (face (step a) (h .left) (h .right) (h .colour) (h .kept))
 abbrev pub many : (State → Followed) → Lent (List ℕ) → Lent (List ℕ)
 many f h = left-in-run (faceRun f (h .left) (h .right) (h .colour) (h .kept))
 
+-- and one that only answers
+abbrev pub asked : (State → Answer) → Lent (List ℕ) → Lent (List ℕ)
+asked f h = left-in (face (asking f) (h .left) (h .right) (h .colour) (h .kept))
+
 unfoldable pub left-by : Call → Lent (List ℕ) → Lent (List ℕ)
 left-by (Fresh m r) h = left-in (shown (fresh m r (h .left ∷ h .right ∷ []) (h .colour)))
 left-by (Load m r lefts rights) h =
     left-in (shown (load m r (lefts ∷ rights ∷ []) (h .left ∷ h .right ∷ []) (h .colour)))
 left-by (Look p) h = once (looking p) h
-left-by InUse h = left-in (face (asking inUse) (h .left) (h .right) (h .colour) (h .kept))
+left-by InUse h = asked inUse h
+left-by FreeCount h = asked freeCount h
 left-by (Link p side q) h = once (linking p side q) h
 left-by Shade h = once shading h
 left-by (Take p side) h = once (taking p side) h
@@ -65,6 +73,7 @@ deedOf (Load m r lefts rights) s =
     starts m r (codeOf (load m r (lefts ∷ rights ∷ []) (s .edges) (s .colour) .answer))
 deedOf (Look p) s = makes (looking p ∷ [])
 deedOf InUse s = makes []
+deedOf FreeCount s = makes []
 deedOf (Link p side q) s = makes (linking p side q ∷ [])
 deedOf Shade s = makes (shading ∷ [])
 deedOf (Take p side) s = makes (taking p side ∷ [])

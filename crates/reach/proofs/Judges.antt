@@ -17,12 +17,12 @@ use Rattle.rules.specs.Records.{freshRecord}
 use Rattle.rules.specs.Fresh.{tabulate, allWhite}
 use Rattle.rules.specs.Meet.{numOf, blank, meet, anyEdge}
 use Rattle.rules.specs.Load.{loadSizeOk, badGiven, firstBad, Chained, chain, isShared, firstShared}
-use Rattle.rules.specs.Load.{judgeFree, judge, loadBy, load}
+use Rattle.rules.specs.Load.{judgeFree, judge, chainLength, loadBy, load}
 use Rattle.rules.specs.declared.Answer.{Answer}
 use Rattle.rules.specs.declared.Answer.the-variants.{Started, Refused}
 use Rattle.theory.specs.Free.{Mem, lastOf}
 use Rattle.theory.proofs.Reaches.{reach-on}
-use Rattle.theory.proofs.Chains.{chain-unique}
+use Rattle.theory.proofs.Chains.{chain-unique, chain-inside, distinct-few}
 use Rattle.reach.specs.Numbered.{good, goodEdge, GoodReaches, Numbered}
 use Rattle.reach.specs.Judged.{SlotReaches, Lowest, BadNode, GoodEdges, first, FreeChain}
 use Rattle.reach.specs.Judged.{Judged, bad-size, bad-edge, bad-chain, shared, accepted}
@@ -32,7 +32,7 @@ use Rattle.reach.proofs.Meets.{blank-at, blank-length, meet-numbers}
 use Rattle.reach.proofs.Lowests.{Passes, lowest-passes}
 use Rattle.reach.proofs.Given.{Sizes, sizes, every-two, bad-yes, bad-no, all-good, good-none}
 use Rattle.reach.proofs.Chains.{Ends, Found, found, breaks-once, ends-whole, free-ends}
-use Rattle.reach.proofs.Walks.{Agrees, Says, ends, breaks, walks}
+use Rattle.reach.proofs.Walks.{Agrees, Says, ends, breaks, walks, turns-along}
 
 pub lowest-once : (P : ℕ → Type 0) (n k : ℕ) → Lowest P n → Lowest P k → n ≡ k
 lowest-once P n k a b = go (decLt n k) (decLt k n)
@@ -262,17 +262,18 @@ module _ (m r : ℕ) (given edges : List (List ℕ)) (colours : List ℕ) where
   judged-answer = load-answer m r given edges colours _
 
   left-done : (last : ℕ) → loadBy m r given edges colours (Started last) .state
-      ≡ table given (tabulate allWhite m) (freshRecord m r last)
+      ≡ table given (tabulate allWhite m) (freshRecord m r last (chainLength given m FREE))
   unfolding loadBy
   left-done last =
-      split (λ (o : Outcome). o .state ≡ table given (tabulate allWhite m) (freshRecord m r last)) _
+      split (λ (o : Outcome). o .state
+      ≡ table given (tabulate allWhite m) (freshRecord m r last (chainLength given m FREE))) _
       _ _ (λ q. refl) (λ q. absurd (true≢false q))
 
   left-refused : (code n : ℕ) → code ≢ 0 → loadBy m r given edges colours (Refused code n) .state
-      ≡ table edges colours (freshRecord 0 0 0)
+      ≡ table edges colours (freshRecord 0 0 0 0)
   unfolding loadBy
   left-refused code n h =
-      split (λ (o : Outcome). o .state ≡ table edges colours (freshRecord 0 0 0)) _ _ _
+      split (λ (o : Outcome). o .state ≡ table edges colours (freshRecord 0 0 0 0)) _ _ _
       (λ q. absurd (h (eqb-true _ _ q))) (λ q. refl)
 
   left-by : (a : Answer) → load m r given edges colours .answer ≡ a
@@ -280,11 +281,27 @@ module _ (m r : ℕ) (given edges : List (List ℕ)) (colours : List ℕ) where
   unfolding load
   left-by a q = ap (λ (b : Answer). loadBy m r given edges colours b .state) (sym judged-answer ∙ q)
 
+-- the turns along the chain are its free nodes, which are distinct nodes of the table
+free-many : {m r : ℕ} {es : List (List ℕ)} {fs : List ℕ} → GoodEdges m es → FreeChain r es fs
+    → chainLength es m FREE ≡ length fs
+free-many {m} {r} {es} {fs} g c =
+    turns-along es m FREE fs (c .chained .chain)
+    (distinct-few 0 m fs (c .chained .distinct) (λ t a. omega (arith, inside t a)))
+  where
+    inside : (t : ℕ) → Mem t fs → t < m
+    inside = chain-inside (edgeOf es) m (λ n. g .good 0 n .0) FREE fs (c .chained .chain)
+
+accepted-good : {m r : ℕ} {given edges : List (List ℕ)} {colours : List ℕ} {last : ℕ}
+    → Judged m r given edges colours (Started last) → GoodEdges m given
+accepted-good (accepted p a) = a .edges
+
 pub load-leaves : Load-leaves
 load-leaves m r given edges colours = record {
-  done =
-      λ last q. left-by m r given edges colours (Started last) q
-      ∙ left-done m r given edges colours last;
+  done = λ last q fs c.
+      let g = accepted-good (load-judges m r given edges colours (Started last) .only q) in
+      left-by m r given edges colours (Started last) q ∙ left-done m r given edges colours last
+      ∙ ap (λ (n : ℕ). table given (tabulate allWhite m) (freshRecord m r last n))
+      (free-many g c);
   refused = λ code n q. left-by m r given edges colours (Refused code n) q
       ∙ left-refused m r given edges colours code n
       (some-code (load-judges m r given edges colours (Refused code n) .only q));

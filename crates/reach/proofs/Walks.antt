@@ -1,7 +1,8 @@
 -- The walk along the free chain comes to the chain's end or to the first node that breaks the
--- chain. It ends, since each node that it comes to is marked, and there are m.
+-- chain. It ends, since each node that it comes to is marked, and there are m. And the turns along
+-- a chain are as many as its nodes.
 use Prim.Native.Nat.{ℕ, zero, suc, _+_, _-_, _≤_, _<_}
-use mathlib.Core.List.{List, _∷_}
+use mathlib.Core.List.{List, [], _∷_}
 use mathlib.Core.Path.{_≡_, refl, sym, _∙_}
 use mathlib.Core.Logic.{_≢_, inl, inr}
 use native.Mathlib.Decide.{ℕ-discrete}
@@ -9,11 +10,11 @@ use native.Mathlib.Omega.{arith}
 use lib.ListN.{length, getD, set, length-set}
 use lib.Seq.{getD-set-same, getD-set-other}
 use borrow.Author.Tests.{ltb-true, ltb-false, eqb-true, eqb-false}
-use Rattle.base.proofs.Tests.{split}
+use Rattle.base.proofs.Tests.{eq-yes, eq-no, pick-yes, pick-no, split}
 use Rattle.rules.specs.Table.{FREE, left, right, edgeOf}
-use Rattle.rules.specs.Load.{Chained, chained, chain}
+use Rattle.rules.specs.Load.{Chained, chained, chain, chainLength}
 use Rattle.rules.specs.declared.Answer.the-variants.{Started, Refused}
-use Rattle.theory.specs.Free.{Mem}
+use Rattle.theory.specs.Free.{Chain, Mem}
 use Rattle.reach.specs.Numbered.{nonzero}
 use Rattle.reach.specs.Judged.{GoodEdges, Breaks, right-edge, to-slot, to-passed, Comes, next}
 use Rattle.reach.proofs.Counts.{nonzero-le, nonzero-up}
@@ -100,3 +101,14 @@ module _ {r : ℕ} {es : List (List ℕ)} where
                 (omega (arith, inside)) (omega arith) v,
             omega (arith, up),
           )
+
+-- f turns are enough for the nodes of the chain
+pub turns-along : (es : List (List ℕ)) (f n : ℕ) (fs : List ℕ) → Chain (edgeOf es) n fs
+    → length fs ≤ f → chainLength es f n ≡ length fs
+unfolding chainLength
+turns-along es zero n [] c h = refl
+turns-along es zero n (t ∷ ts) c h = absurd (omega arith)
+turns-along es (suc f) n [] c h = sym (pick-yes 0 _ _ _ (eq-yes _ 0 c) refl)
+turns-along es (suc f) n (t ∷ ts) c h =
+    sym (pick-no _ _ _ _ (eq-no _ 0 (λ q. c .0 (sym (c .1) ∙ q)))
+    (rw (c .1) (omega (arith, turns-along es f t ts (c .2) (omega arith)))))

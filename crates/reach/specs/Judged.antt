@@ -90,13 +90,14 @@ Load-judges =
     (m r : ℕ) (given edges : List (List ℕ)) (colours : List ℕ) (a : Answer)
     → Exactly (load m r given edges colours .answer) (Judged m r given edges colours) a
 
--- [Load 1] [Load 2] [Load 3] the table that Load makes; [Load 11] where it is refused, none
+-- [Load 1] [Load 2] [Load 3] the table that Load makes: where fs are the free nodes, the free count
+-- is the length of their list; [Load 11] where it is refused, none
 pub record Leaves (m r : ℕ) (given edges : List (List ℕ)) (colours : List ℕ) : Type 0 where
-  pub done : (last : ℕ) → load m r given edges colours .answer ≡ Started last
-      → load m r given edges colours .state
-      ≡ table given (tabulate allWhite m) (freshRecord m r last)
+  pub done : (last : ℕ) → load m r given edges colours .answer ≡ Started last → (fs : List ℕ)
+      → FreeChain r given fs → load m r given edges colours .state
+      ≡ table given (tabulate allWhite m) (freshRecord m r last (length fs))
   pub refused : (code n : ℕ) → load m r given edges colours .answer ≡ Refused code n
-      → load m r given edges colours .state ≡ table edges colours (freshRecord 0 0 0)
+      → load m r given edges colours .state ≡ table edges colours (freshRecord 0 0 0 0)
 
 abbrev pub Load-leaves : Type 0
 Load-leaves =

@@ -17,7 +17,7 @@ use Rattle.rules.specs.declared.Owed.the-variants.{Nothing, Node}
 use Rattle.record_words.specs.Words.{word, owesOf, owedOf, wordsOf, most, within}
 use Rattle.record_words.specs.Words.{flagged, isRecord, Within, WORDS, NODES, SLOTS, PHASE, I}
 use Rattle.record_words.specs.Words.{K, OWES, OWED, LAST, STEPS, CYCLES, TOOK, BLACKENED}
-use Rattle.record_words.specs.Words.{LASTBLACKENED}
+use Rattle.record_words.specs.Words.{LASTBLACKENED, FREECOUNT}
 
 none-within : (w : List ℕ) → true ≡ within w 0
 unfolding within
@@ -80,24 +80,25 @@ four-hold top a b c d h =
 -- the words' widths in the order in which they are tested
 abbrev Tested : List ℕ → Type 0
 Tested w =
-    (word w PHASE ≤ 5) × (word w OWES ≤ 1)
+    (word w PHASE ≤ 5) × (word w OWES ≤ 1) × (word w FREECOUNT ≤ 65535)
     × AtMost 65535 (word w I) (word w K) (word w OWED) (word w LAST)
     × AtMost 65535 (word w NODES) (word w SLOTS) (word w BLACKENED) (word w LASTBLACKENED)
     × AtMost 4294967295 (word w STEPS) (word w CYCLES) (word w TOOK) 0
-    × AtMost 0 (word w 13) (word w 14) (word w 15) (word w 16)
-    × AtMost 0 (word w 17) (word w 18) (word w 19) (word w 20)
-    × AtMost 0 (word w 21) (word w 22) (word w 23) 0
+    × AtMost 0 (word w 14) (word w 15) (word w 16) (word w 17)
+    × AtMost 0 (word w 18) (word w 19) (word w 20) (word w 21)
+    × AtMost 0 (word w 22) (word w 23) 0 0
 
 pub all-pass : (w : List ℕ) → Tested w → true ≡ within w WORDS
 all-pass w t =
-    let a : Within w 6 = ((((((tt, t .3 .0), t .3 .1), t .0), t .2 .0), t .2 .1), t .1) in
-    let b : Within w 8 = ((a, t .2 .2), t .2 .3) in
-    let c : Within w 13 = (((((b, t .4 .0), t .4 .1), t .4 .2), t .3 .2), t .3 .3) in
-    let d : Within w 19 = ((((((c, t .5 .0), t .5 .1), t .5 .2), t .5 .3), t .6 .0), t .6 .1) in
-    tests-of w WORDS (((((d, t .6 .2), t .6 .3), t .7 .0), t .7 .1), t .7 .2)
+    let a : Within w 6 = ((((((tt, t .4 .0), t .4 .1), t .0), t .3 .0), t .3 .1), t .1) in
+    let b : Within w 8 = ((a, t .3 .2), t .3 .3) in
+    let c : Within w 14 = ((((((b, t .5 .0), t .5 .1), t .5 .2), t .4 .2), t .4 .3), t .2) in
+    let d : Within w 20 = ((((((c, t .6 .0), t .6 .1), t .6 .2), t .6 .3), t .7 .0), t .7 .1) in
+    tests-of w WORDS ((((d, t .7 .2), t .7 .3), t .8 .0), t .8 .1)
 
 passed : (w : List ℕ) → Within w WORDS → Tested w
 passed w h = (
+  omega arith,
   omega arith,
   omega arith,
   (omega arith, omega arith, omega arith, omega arith),

@@ -57,9 +57,12 @@ BLACKENED = 11
 abbrev pub LASTBLACKENED : ℕ
 LASTBLACKENED = 12
 
+abbrev pub FREECOUNT : ℕ
+FREECOUNT = 13
+
 -- those from here on have no use
 abbrev pub USED : ℕ
-USED = 13
+USED = 14
 
 -- whether a shade is owed, and the node: 0 where none is
 abbrev pub owesOf : Owed → ℕ
@@ -78,7 +81,7 @@ unused = replicate (WORDS - USED) 0
 abbrev pub laidOut : Record → ℕ → ℕ → ℕ → ℕ → ℕ → List ℕ
 laidOut x tag i k owes n =
     x .m ∷ x .r ∷ tag ∷ i ∷ k ∷ owes ∷ n ∷ x .last ∷ x .steps ∷ x .cycles ∷ x .took ∷ x .blackened ∷
-    x .lastblackened ∷ unused
+    x .lastblackened ∷ x .free ∷ unused
 
 abbrev pub wordsOf : Record → List ℕ
 wordsOf x =
@@ -102,6 +105,7 @@ pickedUp w phase owed =
       took = word w TOOK;
       blackened = word w BLACKENED;
       lastblackened = word w LASTBLACKENED;
+      free = word w FREECOUNT;
     }
 
 unfoldable pub recordOf : List ℕ → Record
@@ -119,8 +123,8 @@ large = 4294967295
 -- the most that each word may be, in their order
 abbrev pub most : List ℕ
 most =
-    small ∷ small ∷ mostTag ∷ small ∷ small ∷ 1 ∷ small ∷ small ∷ large ∷ large ∷ large ∷ small ∷ small ∷
-    unused
+    small ∷ small ∷ mostTag ∷ small ∷ small ∷ 1 ∷ small ∷ small ∷ large ∷ large ∷ large ∷ small ∷
+    small ∷ small ∷ unused
 
 -- the first n words are at most that
 unfoldable pub within : List ℕ → ℕ → Bool

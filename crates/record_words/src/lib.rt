@@ -40,6 +40,8 @@ const BLACKENED: usize = 11;
 
 const LASTBLACKENED: usize = 12;
 
+const FREECOUNT: usize = 13;
+
 fn owes(o: Owed) -> u32
     ensures { λ n. ⌜ n ≡ owesOf o ⌝ }
 {
@@ -66,6 +68,7 @@ fn laid_out(x: Record, tag: u32, i: u16, k: u16, owes: u32, n: u16) -> [u32; WOR
     let last = x.last;
     let blackened = x.blackened;
     let lastblackened = x.lastblackened;
+    let free = x.free;
     [
         m as u32,
         r as u32,
@@ -80,7 +83,7 @@ fn laid_out(x: Record, tag: u32, i: u16, k: u16, owes: u32, n: u16) -> [u32; WOR
         x.took,
         blackened as u32,
         lastblackened as u32,
-        0,
+        free as u32,
         0,
         0,
         0,
@@ -128,7 +131,7 @@ fn at_most(top: u32, a: u32, b: u32, c: u32, d: u32) -> bool
     d <= top
 }
 
-// Whether each word has its width; those from 13 on have no use. They are tested by name, not in a
+// Whether each word has its width; those from 14 on have no use. They are tested by name, not in a
 // loop: the compiler would make it load four words at once, which waits until the words that the
 // call before stored one by one are in memory.
 fn within(w: [u32; WORDS]) -> bool
@@ -140,6 +143,9 @@ fn within(w: [u32; WORDS]) -> bool
     if 1 < w[OWES] {
         return false;
     }
+    if 65535 < w[FREECOUNT] {
+        return false;
+    }
     if !at_most(65535, w[I], w[K], w[OWED], w[LAST]) {
         return false;
     }
@@ -149,13 +155,13 @@ fn within(w: [u32; WORDS]) -> bool
     if !at_most(4294967295, w[STEPS], w[CYCLES], w[TOOK], 0) {
         return false;
     }
-    if !at_most(0, w[13], w[14], w[15], w[16]) {
+    if !at_most(0, w[14], w[15], w[16], w[17]) {
         return false;
     }
-    if !at_most(0, w[17], w[18], w[19], w[20]) {
+    if !at_most(0, w[18], w[19], w[20], w[21]) {
         return false;
     }
-    if !at_most(0, w[21], w[22], w[23], 0) {
+    if !at_most(0, w[22], w[23], 0, 0) {
         return false;
     }
     true
@@ -207,6 +213,7 @@ fn picked_up(w: [u32; WORDS], phase: Phase, owed: Owed) -> Record
         took: w[TOOK],
         blackened: w[BLACKENED] as u16,
         lastblackened: w[LASTBLACKENED] as u16,
+        free: w[FREECOUNT] as u16,
     }
 }
 

@@ -11,8 +11,8 @@ use Rattle.base.specs.Choice.{every, pick}
 use Rattle.base.proofs.Tests.{each, facts, split, tests}
 use Rattle.rules.specs.Table.{mostNodes}
 use Rattle.rules.specs.Phases.{scanTag, hasSecond}
-use Rattle.rules.specs.Check.{sizeOk, positionOk, secondOk, phaseOk, owedOk, lastOk, bound}
-use Rattle.rules.specs.Check.{cycleOk, toldOk, countsOk, recordOk, checkOf}
+use Rattle.rules.specs.Check.{sizeOk, positionOk, secondOk, phaseOk, owedOk, lastOk, freeOk}
+use Rattle.rules.specs.Check.{bound, cycleOk, toldOk, countsOk, recordOk, checkOf}
 use Rattle.rules.specs.Facts.{Checked, Tells, Inside, Limited, InRange, Owable}
 use Rattle.rules.specs.declared.Record.{Record}
 use Rattle.rules.specs.declared.Phase.{Phase}
@@ -85,11 +85,12 @@ owable-of m Nothing e = tt
 owable-of m (Node n) e = ltb-true _ _ (each _ (sym e) .1 .0)
 
 pub good : (ll rl cl : ℕ) (x : Record) → 0 ≡ checkOf (ll ∷ rl ∷ []) cl x → Checked ll rl cl x
-unfolding sizeOk recordOk countsOk cycleOk bound
+unfolding sizeOk recordOk freeOk countsOk cycleOk bound
 good ll rl cl x e =
     let s = each _ (passes (ll ∷ rl ∷ []) cl x e .0) in
     let k = each _ (passes (ll ∷ rl ∷ []) cl x e .1) in
-    let n = each _ (sym (each _ (sym (k .1 .1 .1 .0)) .0)) in
+    let f = each _ (sym (k .1 .1 .1 .0)) .0 in
+    let n = each _ (sym (each _ (sym (k .1 .1 .1 .1 .0)) .0)) in
     let h : x .m ≤ mostNodes = omega facts in
     let q = square (x .m) h in
     let l = last-of (x .m) (x .r) (x .last) (k .1 .1 .0) (omega facts) in

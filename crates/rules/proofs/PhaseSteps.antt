@@ -13,7 +13,7 @@ use Rattle.base.proofs.Tests.{split, le-yes, lt-yes, eq-no, pick-no, every-skip
 use Rattle.rules.specs.Table.{State, Outcome, did, unless, white, black, withColour}
 use Rattle.rules.specs.Table.{shade}
 use Rattle.rules.specs.Phases.{rootsTag, tagOf, position, second, hasSecond}
-use Rattle.rules.specs.Records.{withLast, moved, marked, next, rescan, afterAppend}
+use Rattle.rules.specs.Records.{withLast, moreFree, moved, marked, next, rescan, afterAppend}
 use Rattle.rules.specs.Check.{positionOk, secondOk, phaseOk, check}
 use Rattle.rules.specs.Facts.{InRange}
 use Rattle.rules.specs.Collector.{shadeStep, afterRoots, scanStep, edgeStep, blackStep}
@@ -78,7 +78,7 @@ pub record Covers (s : State) (P : Outcome → Type 0) : Type 0 where
   pub whitens : (i : ℕ) → i < s .rec .m
       → P (did (Whitened i) (withColour s i white) (afterAppend (s .rec) i))
   pub appends : (i : ℕ) → s .rec .r + 1 < i → i < s .rec .m
-      → P (did (Appended i) (append s i) (afterAppend (withLast (s .rec) i) i))
+      → P (did (Appended i) (append s i) (afterAppend (moreFree (withLast (s .rec) i)) i))
 
 or-no : (a b : Bool) → a || b ≡ false → a ≡ false
 or-no true b e = e

@@ -1,6 +1,6 @@
 -- [Codes 1] and [Codes 2]: the sizes and the record's test. [Order 5] Nothing else is judged.
 use Rattle.base.specs.Choice.{pick, every}
-use Prim.Native.Nat.{ℕ, _+_, _*_}
+use Prim.Native.Nat.{ℕ, _+_, _-_, _*_}
 use mathlib.Core.Bool.{Bool, true, _||_, not}
 use mathlib.Core.List.{List, [], _∷_, _++_, map}
 use lib.ListN.{length}
@@ -40,6 +40,12 @@ owedOk m (Node n) = every (not (eqb n FREE) ∷ ltb n m ∷ [])
 unfoldable pub lastOk : ℕ → ℕ → ℕ → Bool
 lastOk m r n = eqb n FREE || every (leb (r + 2) n ∷ ltb n m ∷ [])
 
+-- [Codes 2] how many are free: at most all that can be, and none exactly while last is FREE
+-- [Record 13]
+unfoldable pub freeOk : ℕ → ℕ → ℕ → ℕ → Bool
+freeOk m r last n =
+    every (leb n (m - (r + 2)) ∷ pick (eqb last FREE) (eqb n 0) (not (eqb n 0)) ∷ [])
+
 -- [Record 11] B, where a node has E edges; the rule is for two
 unfoldable pub bound : ℕ → ℕ → ℕ → ℕ
 bound E m r = m * m + (3 + E) * m + r + 2
@@ -58,7 +64,8 @@ countsOk x b = every (cycleOk x b ∷ toldOk x b ∷ [])
 unfoldable pub recordOk : ℕ → Record → Bool
 recordOk E x =
     every (phaseOk (x .m) (x .r) (x .phase) ∷ owedOk (x .m) (x .owed) ∷ lastOk (x .m) (x .r)
-    (x .last) ∷ countsOk x (bound E (x .m) (x .r)) ∷ [])
+    (x .last) ∷ freeOk (x .m) (x .r) (x .last)
+    (x .free) ∷ countsOk x (bound E (x .m) (x .r)) ∷ [])
 
 -- codes 1 and 2, for slices of these lengths
 unfoldable pub checkOf : List ℕ → ℕ → Record → ℕ

@@ -7,7 +7,7 @@ use lib.Dec.{eqb}
 use Rattle.rules.specs.Table.{State, Outcome, did, refuse, unless, white, gray, black, isRoot}
 use Rattle.rules.specs.Table.{left, right, edge, withEdge, cleared, colourOf, withColour}
 use Rattle.rules.specs.Table.{shade, badEdge, badColour}
-use Rattle.rules.specs.Records.{withLast, moved, marked, next, rescan, afterAppend}
+use Rattle.rules.specs.Records.{withLast, moreFree, moved, marked, next, rescan, afterAppend}
 use Rattle.rules.specs.Check.{check}
 use Rattle.rules.specs.declared.Phase.{Phase}
 use Rattle.rules.specs.declared.Phase.the-variants.{Roots, Scan, Left, Right, Black, Append}
@@ -46,11 +46,11 @@ unfoldable pub append : State → ℕ → State
 append s i = withEdge (cleared s i) left (s .rec .last) i
 
 -- [Damage 4] a white node that is a root, or last, is bad; [Append 3] any other is appended, and is
--- last now
+-- last now; [Append 6] one more is free
 unfoldable pub appendWhite : State → ℕ → Outcome
 appendWhite s i =
     pick (isRoot (s .rec .r) i || eqb i (s .rec .last)) (refuse s 7 i)
-    (did (Appended i) (append s i) (afterAppend (withLast (s .rec) i) i))
+    (did (Appended i) (append s i) (afterAppend (moreFree (withLast (s .rec) i)) i))
 
 -- [Append 1] the colour decides: [Append 2] black becomes white, white is appended, and any other
 -- is bad [Damage 4]

@@ -9,7 +9,7 @@ use mathlib.Core.List.{[], _∷_}
 use lib.Dec.{ltb, leb, eqb}
 use Rattle.rules.specs.Table.{State, sides, Outcome, did, refuse, unless, NIL, FREE, left}
 use Rattle.rules.specs.Table.{edge, withEdge, shade, badColour}
-use Rattle.rules.specs.Records.{owing, paid, withLast}
+use Rattle.rules.specs.Records.{owing, paid, withLast, lessFree}
 use Rattle.rules.specs.Check.{check}
 use Rattle.rules.specs.Places.{placeCode, walk, arrive}
 use Rattle.rules.specs.declared.Place.{Place}
@@ -76,15 +76,15 @@ relink s n side f g =
     shade cut f
 
 -- [Take 2] f's left edge g, f's colour and g's colour are judged in this order; [Take 4] g is
--- shaded if there is one, [Take 5] and if there is none the list is empty. [Take 6] The record is
--- else as it was; [Take 7] f is answered.
+-- shaded if there is one, [Take 5] and if there is none the list is empty; [Take 10] one less is
+-- free. [Take 6] The record is else as it was; [Take 7] f is answered.
 unfoldable pub takeNext : State → ℕ → ℕ → ℕ → ℕ → Outcome
 takeNext s n side f g =
     pick (badFree (s .rec .m) (s .rec .r) g) (refuse s 7 f)
     (pick (badColour s f) (refuse s 7 f)
-    (pick (eqb g 0) (did (Taken f) (relink s n side f g) (withLast (s .rec) FREE))
+    (pick (eqb g 0) (did (Taken f) (relink s n side f g) (withLast (lessFree (s .rec)) FREE))
     (pick (badColour s g) (refuse s 7 g)
-    (did (Taken f) (shade (relink s n side f g) g) (s .rec)))))
+    (did (Taken f) (shade (relink s n side f g) g) (lessFree (s .rec))))))
 
 -- [Take 1] f is the first free node: [Codes 9] there is one; g is the next
 unfoldable pub takeFirst : State → ℕ → ℕ → ℕ → Outcome

@@ -50,5 +50,6 @@ pub record Checked (ll rl cl : ℕ) (x : Record) : Type 0 where
   pub colours : cl ≡ x .m
   pub last-low : 1 ≤ x .last
   pub last-high : x .last < x .m
+  pub free : x .free ≤ x .m
   pub blackened : x .blackened ≤ x .m
   pub steps : x .steps < manySteps

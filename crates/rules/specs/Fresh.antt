@@ -34,14 +34,15 @@ allWhite n = white
 unfoldable pub freshLast : ℕ → ℕ → ℕ
 freshLast m r = pick (ltb (r + 2) m) (m - 1) FREE
 
+-- [Fresh 5] all nodes but the roots are free [Record 13]
 unfoldable pub freshState : ℕ → ℕ → ℕ → State
 freshState E m r =
     table (tabulate (freshLeft m r) m ∷ replicate (E - 1) (tabulate noEdge m)) (tabulate allWhite m)
-    (freshRecord m r (freshLast m r))
+    (freshRecord m r (freshLast m r) (m - (r + 2)))
 
 -- [Fresh 1] whatever the lists held; [Fresh 6] answers last; [Fresh 7] [Fresh 8] or is refused
 unfoldable pub fresh : ℕ → ℕ → List (List ℕ) → List ℕ → Outcome
 fresh m r edges colours =
     pick (sizeOk m r (map length edges) (length colours))
     (record { answer = Started (freshLast m r); state = freshState (length edges) m r })
-    (record { answer = refused 1 0; state = table edges colours (freshRecord 0 0 0) })
+    (record { answer = refused 1 0; state = table edges colours (freshRecord 0 0 0 0) })

@@ -12,5 +12,6 @@ pub mod Changes
 pub mod Meet
 pub mod Load
 pub mod InUse
+pub mod FreeCount
 pub mod Facts
 pub mod Lent

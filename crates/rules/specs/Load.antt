@@ -54,6 +54,13 @@ chain r es (suc f) free n =
     (chained free (refused 12 n)))))
     (chained free (refused 12 n))
 
+-- [Load 3] how many nodes follow n on the chain: after FREE they are the free nodes. At most f
+-- turns are made.
+unfoldable pub chainLength : List (List ℕ) → ℕ → ℕ → ℕ
+chainLength es zero n = 0
+chainLength es (suc f) n =
+    pick (eqb (edgeOf es left n) 0) 0 (chainLength es f (edgeOf es left n) + 1)
+
 -- [Codes 13] node n is free, and a slot reaches it
 unfoldable pub isShared : List ℕ → List ℕ → ℕ → Bool
 isShared free num n = every (not (eqb (getD free n 0) 0) ∷ not (eqb (getD num n 0) 0) ∷ [])
@@ -83,9 +90,10 @@ loadBy m r given edges colours a =
     pick (eqb (codeOf a) 0)
     (record {
       answer = a;
-      state = table given (tabulate allWhite m) (freshRecord m r (nodeOf a));
+      state = table given (tabulate allWhite m)
+          (freshRecord m r (nodeOf a) (chainLength given m FREE));
     })
-    (record { answer = a; state = table edges colours (freshRecord 0 0 0) })
+    (record { answer = a; state = table edges colours (freshRecord 0 0 0 0) })
 
 -- [Load 6] first the sizes
 unfoldable pub load : ℕ → ℕ → List (List ℕ) → List (List ℕ) → List ℕ → Outcome

@@ -1,7 +1,7 @@
 -- The record: how Fresh makes it, and how a step moves it. [Record 12] What is not told to change
 -- is as it was.
 use Rattle.base.specs.Choice.{pick}
-use Prim.Native.Nat.{ℕ, _+_, _%_}
+use Prim.Native.Nat.{ℕ, _+_, _-_, _%_}
 use lib.Dec.{ltb, eqb}
 use Rattle.rules.specs.declared.Record.{Record}
 use Rattle.rules.specs.declared.Phase.{Phase}
@@ -10,8 +10,8 @@ use Rattle.rules.specs.declared.Owed.{Owed}
 use Rattle.rules.specs.declared.Owed.the-variants.{Nothing, Node}
 
 -- [Fresh 5] the record that Fresh makes
-abbrev pub freshRecord : ℕ → ℕ → ℕ → Record
-freshRecord m r last =
+abbrev pub freshRecord : ℕ → ℕ → ℕ → ℕ → Record
+freshRecord m r last free =
     record {
       m = m;
       r = r;
@@ -23,12 +23,13 @@ freshRecord m r last =
       took = 0;
       blackened = 0;
       lastblackened = 0;
+      free = free;
     }
 
 -- x with these in place of its own; all that follows is made by it. M and R stay as Fresh made
 -- them.
-abbrev pub remade : Record → Phase → Owed → ℕ → ℕ → ℕ → ℕ → ℕ → ℕ → Record
-remade x phase owed last steps cycles took blackened lastblackened =
+abbrev pub remade : Record → Phase → Owed → ℕ → ℕ → ℕ → ℕ → ℕ → ℕ → ℕ → Record
+remade x phase owed last steps cycles took blackened lastblackened free =
     record {
       m = x .m;
       r = x .r;
@@ -40,17 +41,19 @@ remade x phase owed last steps cycles took blackened lastblackened =
       took = took;
       blackened = blackened;
       lastblackened = lastblackened;
+      free = free;
     }
 
 -- where the record stands: the counts stay
 abbrev placed : Record → Phase → Owed → ℕ → Record
 placed x phase owed last =
     remade x phase owed last (x .steps) (x .cycles) (x .took) (x .blackened) (x .lastblackened)
+    (x .free)
 
 -- the counts
 abbrev counted : Record → ℕ → ℕ → ℕ → ℕ → ℕ → Record
 counted x steps cycles took blackened lastblackened =
-    remade x (x .phase) (x .owed) (x .last) steps cycles took blackened lastblackened
+    remade x (x .phase) (x .owed) (x .last) steps cycles took blackened lastblackened (x .free)
 
 -- one field
 abbrev pub withPhase : Record → Phase → Record
@@ -76,6 +79,19 @@ withBlackened x n = counted x (x .steps) (x .cycles) (x .took) n (x .lastblacken
 
 abbrev pub withLastBlackened : Record → ℕ → Record
 withLastBlackened x n = counted x (x .steps) (x .cycles) (x .took) (x .blackened) n
+
+abbrev pub withFree : Record → ℕ → Record
+withFree x n =
+    remade x (x .phase) (x .owed) (x .last) (x .steps) (x .cycles) (x .took) (x .blackened)
+    (x .lastblackened) n
+
+-- [Take 10] one node less is free [Record 13]; 0 stays 0
+abbrev pub lessFree : Record → Record
+lessFree x = withFree x (x .free - 1)
+
+-- [Append 6] one node more is free
+abbrev pub moreFree : Record → Record
+moreFree x = withFree x (x .free + 1)
 
 -- [Link 2] node n's shade is owed [Record 4]
 abbrev pub owing : Record → ℕ → Record

@@ -8,10 +8,10 @@ ghost use Rattle.rules.specs.Table.{mostNodes, mostSlots, refusal, refus
 ghost use Rattle.rules.specs.Facts.{manySteps};
 ghost use Rattle.rules.specs.Phases.{tagOf, position, second, hasSecond, phaseOf};
 ghost use Rattle.rules.specs.Records.{freshRecord, withPhase, withOwed, withLast};
-ghost use Rattle.rules.specs.Records.{owing, paid, moved, marked, rescan, oneMore, closed};
-ghost use Rattle.rules.specs.Records.{afterAppend};
-ghost use Rattle.rules.specs.Check.{sizeOk, phaseOk, owedOk, lastOk, bound, cycleOk, toldOk};
-ghost use Rattle.rules.specs.Check.{countsOk, recordOk, checkOf};
+ghost use Rattle.rules.specs.Records.{lessFree, moreFree, owing, paid, moved, marked, rescan};
+ghost use Rattle.rules.specs.Records.{oneMore, closed, afterAppend};
+ghost use Rattle.rules.specs.Check.{sizeOk, phaseOk, owedOk, lastOk, freeOk, bound, cycleOk};
+ghost use Rattle.rules.specs.Check.{toldOk, countsOk, recordOk, checkOf};
 ghost use Rattle.rules.specs.Steps.{codeOf, nodeOf};
 
 // [Table 1] The most nodes that a table has, and the most slots.
@@ -68,6 +68,7 @@ pub struct Record {
     pub took: u32,
     pub blackened: u16,
     pub lastblackened: u16,
+    pub free: u16,
 }
 
 // What a call did and to which node, or how many nodes it counted, or the code that refuses it,
@@ -285,6 +286,21 @@ fn last_ok(m: u16, r: u16, n: u16) -> bool
     n < m
 }
 
+// Whether so many may be free: none exactly while last is FREE.
+pub fn free_ok(m: u16, r: u16, last: u16, n: u16) -> bool
+    requires { ⌜ r ≤ mostSlots ⌝ }
+    requires { ⌜ r + 2 ≤ m ⌝ }
+    ensures { λ ok. ⌜ ok ≡ freeOk m r last n ⌝ }
+{
+    if m - (r + 2) < n {
+        return false;
+    }
+    if last == 1 {
+        return n == 0;
+    }
+    n != 0
+}
+
 // B, the most steps that a cycle may take.
 pub fn bound(m: u16, r: u16) -> u32
     requires { ⌜ m ≤ mostNodes ⌝ }
@@ -327,6 +343,7 @@ fn counts_ok(x: Record, b: u32) -> bool
 fn record_ok(x: Record) -> bool
     requires { ⌜ x .m ≤ mostNodes ⌝ }
     requires { ⌜ x .r ≤ mostSlots ⌝ }
+    requires { ⌜ x .r + 2 ≤ x .m ⌝ }
     ensures { λ ok. ⌜ ok ≡ recordOk 2 x ⌝ }
 {
     let phase = x.phase;
@@ -338,6 +355,9 @@ fn record_ok(x: Record) -> bool
         return false;
     }
     if !last_ok(x.m, x.r, x.last) {
+        return false;
+    }
+    if !free_ok(x.m, x.r, x.last, x.free) {
         return false;
     }
     counts_ok(x, bound(x.m, x.r))
@@ -377,9 +397,9 @@ pub fn refusal(code: u8, node: u16, x: Record) -> Made
 }
 
 impl Record {
-    // Roots 0, nothing owed, all counts 0.
-    pub fn fresh(m: u16, r: u16, last: u16) -> Record
-        ensures { λ x. ⌜ x ≡ freshRecord m r last ⌝ }
+    // Roots 0, nothing owed, all other counts 0.
+    pub fn fresh(m: u16, r: u16, last: u16, free: u16) -> Record
+        ensures { λ x. ⌜ x ≡ freshRecord m r last free ⌝ }
     {
         Record {
             m,
@@ -392,6 +412,7 @@ impl Record {
             took: 0,
             blackened: 0,
             lastblackened: 0,
+            free,
         }
     }
 
@@ -410,6 +431,7 @@ impl Record {
             took: self.took,
             blackened: self.blackened,
             lastblackened: self.lastblackened,
+            free: self.free,
         }
     }
 
@@ -446,6 +468,26 @@ impl Record {
         ensures { λ r. ⌜ r ≡ withLast self n ⌝ }
     {
         self.last = n;
+        self
+    }
+
+    // One node less is free; 0 stays 0.
+    pub fn less_free(mut self) -> Record
+        ensures { λ r. ⌜ r ≡ lessFree self ⌝ }
+    {
+        if self.free == 0 {
+            return self;
+        }
+        self.free = self.free - 1;
+        self
+    }
+
+    // One node more is free.
+    pub fn more_free(mut self) -> Record
+        requires { ⌜ self .free ≤ mostNodes ⌝ }
+        ensures { λ r. ⌜ r ≡ moreFree self ⌝ }
+    {
+        self.free = self.free + 1;
         self
     }
 

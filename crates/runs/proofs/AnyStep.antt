@@ -16,6 +16,7 @@ use Rattle.rules.specs.declared.Step.{Step}
 use Rattle.theory.proofs.Steps as S
 use S.{Tick, goes, ends, CStep}
 use Rattle.theory.proofs.Keep.{keep-editor}
+use Rattle.theory.proofs.FreeCount.{count-editor}
 use Rattle.runs.specs.Runs.{after, collector, kind, firstAppend, lastAppend, completes, marks}
 use Rattle.runs.specs.Runs.{Count, going, closing, told}
 use Rattle.runs.specs.Demand.{Allowed}
@@ -119,6 +120,7 @@ sound-edited {E} {s} g e = record {
             (λ (n : Count). n .blackened) (e .same .counts),
       )
       (bill-edit (sizes (g .fits)) (made-there e) (g .inv) refl (g .bill));
+  free = rw (e .free) (count-editor (sizes (g .fits)) (e .made) (g .inv) (g .free));
 }
 
 pub sound-step : {E : ℕ} (c : Step) (s : State) → Sound E s → Sound E (after c s)

@@ -5,9 +5,12 @@ use mathlib.Core.Path.{_≡_, refl, sym, ap, _∙_, subst}
 use mathlib.Core.Logic.{_≢_, _⊎_, inl, inr}
 use mathlib.Core.Option.{none, some}
 use native.Mathlib.Omega.{arith}
+use lib.ListN.{length}
+use Rattle.base.proofs.Tests.{eq-yes, pick-yes}
 use Rattle.rules.specs.Table.{State, FREE, left, edge, colourOf}
 use Rattle.rules.specs.Check.{bound, check}
 use Rattle.rules.specs.InUse.{inUse}
+use Rattle.rules.specs.FreeCount.{freeCount}
 use Rattle.rules.specs.Steps.{step, codeOf}
 use Rattle.rules.specs.declared.Step.{Step}
 use Rattle.rules.specs.declared.Answer.{Answer}
@@ -19,6 +22,7 @@ use S.{Tick}
 use Rattle.theory.proofs.Safe as A
 use A.{untouched, Edits, of-slot, of-free, of-first, edit-where}
 use Rattle.theory.proofs.Facts as F
+use Rattle.theory.proofs.FreeCount.{count-listed}
 use Rattle.theory.proofs.Marking.{none≢some}
 use Rattle.theory.proofs.Invariant.{Inv, Free, at-roots}
 use Rattle.reach.specs.Counted.{Number, HurtNode, Counts, bad-size, bad-record, damaged, counted}
@@ -171,6 +175,7 @@ module _ {E : ℕ} {s : State} {ph : S.Phase} (g : Ready E s ph) where
     };
     only = λ fs c. F.free-only (g .inv) fs c;
     end = f .end;
+    number = count-listed (g .inv .shape) (g .free);
     bare = λ x i. f .spare x i .bare;
     inside = λ x i. omega (arith, f .spare x i .low, f .spare x i .high);
     away = λ x i a. F.free-unreached (g .inv) x i (slot-there s (g .rows) a);
@@ -178,6 +183,11 @@ module _ {E : ℕ} {s : State} {ph : S.Phase} (g : Ready E s ph) where
     where
       f : Free E (s .rec .m) (top s) (edge s) (s .rec .last)
       f = g .inv .shape .free
+
+  pub counts-free : freeCount s ≡ Counted (length (free-nodes .list))
+  unfolding freeCount
+  counts-free = sym (pick-yes _ _ _ _ (eq-yes _ 0 (sym (g .good)))
+      (ap Counted (sym (free-nodes .number))))
 
 pub demand : {E m r : ℕ} {n : Count} {s : State} → Carried E m r n s → Demand E m r n s
 demand {E} {m} {r} {n} {s} v = record {
@@ -221,6 +231,7 @@ demand {E} {m} {r} {n} {s} v = record {
       (λ i q. h i (is-append (view (v .sound .fits .few) (s .rec .phase)) q)) (ap owes o) side x
       (omega (arith, l, v .sound .rows .count)) b;
   in-use = counts-used (v .sound);
+  free-count = counts-free (ready (v .sound));
 }
   where
     same-bound : bound E (s .rec .m) (s .rec .r) ≡ bound E m r

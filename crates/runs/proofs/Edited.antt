@@ -1,6 +1,7 @@
 -- What is said of an outcome of an editor's step: it is a step of the theory's editor, or changes
--- nothing, and its code is allowed. Codes before the walk, and the walk: from a ready state they
--- refuse with an allowed code, or the place names a node.
+-- nothing, its code is allowed, and the free count falls by one where it takes. Codes before the
+-- walk, and the walk: from a ready state they refuse with an allowed code, or the place names a
+-- node.
 use Prim.Native.Nat.{ℕ, zero, suc, _/_, _%_}
 use mathlib.Core.Bool.{true, false}
 use mathlib.Core.Path.{_≡_, refl, sym}
@@ -12,7 +13,7 @@ use borrow.Author.Tests.{eqb-true, ltb-true}
 use Rattle.base.specs.Choice.{first}
 use Rattle.base.proofs.Tests.{each, split, Zeros, zeros}
 use Rattle.rules.specs.Table.{State, sides, Outcome, refuse, unless, edge}
-use Rattle.rules.specs.Records.{withOwed, withLast}
+use Rattle.rules.specs.Records.{withOwed, withLast, withFree}
 use Rattle.rules.specs.Check.{check}
 use Rattle.rules.specs.Places.{base, sidesOk, turnsOk, placeCode, start, walkFrom, walk, arrive}
 use Rattle.rules.specs.Editor.{owedCode}
@@ -29,6 +30,7 @@ use R.{Reach, Slot}
 use Rattle.theory.proofs.Marking.{none≢some}
 use Rattle.theory.proofs.Steps as S
 use S.{other, Deed, nothing, EStep, rest}
+use Rattle.theory.proofs.FreeCount.{freeEdited}
 use Rattle.runs.specs.Runs.{kind, blackens}
 use Rattle.runs.specs.Demand.{Allowed}
 use Rattle.runs.proofs.Picks.{if-no}
@@ -47,6 +49,7 @@ pub record Same (x y : Record) : Type 0 where
 pub record Edited (E : ℕ) (s : State) (ph : S.Phase) (o : Outcome) : Type 0 where
   pub deed : Deed
   pub made : EStep E (top s) deed (stateIn s ph) (stateIn (o .state) ph)
+  pub free : o .state .rec .free ≡ freeEdited deed (s .rec .free)
   pub code : Allowed (codeOf (o .answer))
   pub named : (x : ℕ) → named (o .answer) ≡ some x → Reach E (Slot (top s)) (edge s) x
   pub appends : act (o .answer) ≡ other
@@ -58,22 +61,23 @@ pub record Edited (E : ℕ) (s : State) (ph : S.Phase) (o : Outcome) : Type 0 wh
 pub some-same : {x y : ℕ} → some x ≡ some y → x ≡ y
 some-same q = cc
 
--- another node owed, and another last
-pub same : (x : Record) (o : Owed) (n : ℕ) → Same x (withLast (withOwed x o) n)
-same x o n = record { m = refl; r = refl; phase = refl; counts = refl }
+-- another node owed, another last, and another free count
+pub same : (x : Record) (o : Owed) (n k : ℕ) → Same x (withFree (withLast (withOwed x o) n) k)
+same x o n k = record { m = refl; r = refl; phase = refl; counts = refl }
 
 pub refused : {E : ℕ} {s : State} {ph : S.Phase} → InLimits E s → (code node : ℕ) → Allowed code
     → Edited E s ph (refuse s code node)
 refused {E} {s} f code node h = record {
   deed = nothing;
   made = rest;
+  free = refl;
   code = h;
   named = λ x q. absurd (none≢some q);
   appends = refl;
   blackens = refl;
   fits = f;
   lengths = refl;
-  same = same (s .rec) (s .rec .owed) (s .rec .last);
+  same = same (s .rec) (s .rec .owed) (s .rec .last) (s .rec .free);
 }
 
 -- the codes given before the walk

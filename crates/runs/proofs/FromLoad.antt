@@ -17,8 +17,9 @@ use Rattle.rules.specs.Steps.{codeOf}
 use Rattle.rules.specs.Load.{load}
 use Rattle.rules.specs.declared.Answer.{Answer}
 use Rattle.theory.specs.Reach.{Graph, Reach, start, along, Slot}
-use Rattle.theory.specs.Free.{Chain, Mem}
+use Rattle.theory.specs.Free.{Mem}
 use Rattle.theory.proofs.Reaches.{Named, Start, reach-ind}
+use Rattle.theory.proofs.Chains.{chain-inside}
 use Rattle.theory.proofs.Invariant.{Bare, Shape, Spare}
 use Rattle.theory.proofs.Keep.{inv-start}
 use Rattle.reach.specs.Judged.{Accepted, Judged, bad-size, bad-edge, bad-chain, shared, accepted}
@@ -37,12 +38,6 @@ all-same m [] h = refl
 all-same m (n ∷ ns) h =
     let w = every-two _ _ h in
     ap₂ (λ (k : ℕ) (ks : List ℕ). k ∷ ks) (eqb-true n m (w .0)) (all-same m ns (w .1))
-
--- the nodes of a chain are what edges lead to
-chain-inside : (s : Graph) (m : ℕ) → ((e n : ℕ) → s e n < m) → (a : ℕ) (fs : List ℕ) → Chain s a fs
-    → (f : ℕ) → Mem f fs → f < m
-chain-inside s m b a (g ∷ fs) c f (inl q) = rw (q, ← c .1) (b 0 a)
-chain-inside s m b a (g ∷ fs) c f (inr i) = chain-inside s m b g fs (c .2) f i
 
 -- what an editor can name is NIL, or a slot reaches it
 named-slot : {E r : ℕ} {s : Graph} → ((e : ℕ) → s e 0 ≡ 0) → {n : ℕ} → Named E (suc (suc r)) s n
@@ -73,7 +68,7 @@ module _ {E m r last : ℕ} {es : List (List ℕ)} (few : Served E) (q : length 
   spare f i = record {
     low = low;
     high =
-        chain-inside (edgeOf es) m (λ e n. a .edges .good e n .0) FREE (a .free)
+        chain-inside (edgeOf es) m (λ n. a .edges .good 0 n .0) FREE (a .free)
         (a .chain .chained .chain) f i;
     bare = bare f (a .chain .bare f (inr i));
     away = λ x. away (named-slot (a .edges .nil) x);
@@ -99,7 +94,8 @@ module _ {E m r last : ℕ} {es : List (List ℕ)} (few : Served E) (q : length 
     free = record { list = a .free; chain = a .chain .chained .chain; end = a .end; spare = spare };
   }
 
-  load-starts : Carried E m r begun (table es (tabulate allWhite m) (freshRecord m r last))
+  load-starts : Carried E m r begun
+      (table es (tabulate allWhite m) (freshRecord m r last (length (a .free))))
   load-starts = record {
     sound = record {
       rows = record {
@@ -114,6 +110,7 @@ module _ {E m r last : ℕ} {es : List (List ℕ)} (few : Served E) (q : length 
           (record { edges = omega arith; fixed = omega arith; room = omega (arith, z .room) })
           load-shape (all-zero m);
       bill = of-roots refl refl;
+      free = (a .free, a .chain .chained .chain, refl);
     };
     nodes = refl;
     slots = refl;
@@ -131,7 +128,7 @@ load-carried {E} m r given edges colours few q h =
         → codeOf a ≡ 0
         → Carried E m r begun (load m r given edges colours .state)
     go _ e (accepted {last = last} p a) h =
-        rw (load-leaves m r given edges colours .done last e)
+        rw (load-leaves m r given edges colours .done last e (a .free) (a .chain))
         (load-starts few q (sizes m r given (map length edges) (length colours) p) a)
     go _ e (bad-size p) h = absurd (omega arith)
     go _ e (bad-edge p b) h = absurd (omega arith)

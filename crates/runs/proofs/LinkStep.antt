@@ -32,13 +32,14 @@ module _ {E : ℕ} {s : State} {ph : S.Phase} (g : Ready E s ph) where
       (λ z. arrived g _ (walked g p (z .0)) (λ n a. record {
         deed = nothing;
         made = rest;
+        free = refl;
         code = allowed refl;
         named = λ x q. subst (Reach E (Slot (top s)) (edge s)) (some-same q) a;
         appends = refl;
         blackens = refl;
         fits = g .fits;
         lengths = refl;
-        same = same (s .rec) (s .rec .owed) (s .rec .last);
+        same = same (s .rec) (s .rec .owed) (s .rec .last) (s .rec .free);
       }))
 
   -- a node that the editor can name is in the table
@@ -69,13 +70,14 @@ module _ {E : ℕ} {s : State} {ph : S.Phase} (g : Ready E s ph) where
         made =
             rw (o, em .colour) (S.link record
             { side = h; source = a; present = n0; target = slot-named b; moved = em .moved });
+        free = refl;
         code = allowed refl;
         named = λ x q. subst (Reach E (Slot (top s)) (edge s)) (some-same q) b;
         appends = refl;
         blackens = refl;
         fits = rw (em .colour) (omega (arith, g .fits));
         lengths = em .lengths;
-        same = same (s .rec) (Node t) (s .rec .last);
+        same = same (s .rec) (Node t) (s .rec .last) (s .rec .free);
       })
 
   pub link-edited : (p : Place) (side : ℕ) (q : Place) → Edited E s ph (link p side q s)

@@ -1,5 +1,5 @@
 -- What is said of an outcome of the collector's step: it is a step of the theory's collector, it is
--- not refused, and the counts go on by one.
+-- not refused, the counts go on by one, and the free count by one where it appends.
 use Prim.Native.Nat.{ℕ}
 use mathlib.Core.Bool.{true, false}
 use mathlib.Core.Path.{_≡_}
@@ -16,6 +16,7 @@ use Rattle.rules.specs.declared.Answer.the-variants.{Blackened, Whitened, Appen
 use Rattle.rules.specs.declared.Answer.the-variants.{Refused}
 use Rattle.theory.specs.Phase as S
 use Rattle.theory.proofs.Steps.{Act, appends, other, Tick, goes, ends, CStep}
+use Rattle.theory.proofs.FreeCount.{freeAfter}
 use Rattle.runs.specs.Runs.{kind, firstAppend, lastAppend, blackens, Count, going, closing}
 use Rattle.runs.proofs.Bill.{Bill}
 use Rattle.runs.proofs.Sound.{stateAt, abs, top, InLimits}
@@ -73,6 +74,7 @@ pub record Simulates (E : ℕ) (s : State) (ph : Phase) (o : Outcome) : Type 0 w
   pub made : CStep E (s .rec .m) (top s) (stateAt E s ph) (abs E (o .state)) (act (o .answer)) tick
   pub code : codeOf (o .answer) ≡ 0
   pub named : named (o .answer) ≡ none
+  pub free : o .state .rec .free ≡ freeAfter (act (o .answer)) (s .rec .free)
   pub fits : InLimits E (o .state)
   pub bill : Bill E (s .rec .m) (s .rec .r) (colourOf (o .state)) (o .state .rec .steps)
       (o .state .rec .blackened) (o .state .rec .phase)

@@ -1,8 +1,8 @@
--- The invariant of all runs: the sizes are good, the theory's invariant holds of the table, and the
--- bill is paid. In such a state neither code 1 nor code 2 is given. Of it an editor's step needs
--- less: a state that is ready.
-use Prim.Native.Nat.{ℕ, zero, suc, _+_, _≤_, _<_}
-use mathlib.Core.Bool.{Bool, true}
+-- The invariant of all runs: the sizes are good, the theory's invariant holds of the table, the
+-- bill is paid, and the free count is the length of the free list. In such a state neither code 1
+-- nor code 2 is given. Of it an editor's step needs less: a state that is ready.
+use Prim.Native.Nat.{ℕ, zero, suc, _+_, _-_, _≤_, _<_}
+use mathlib.Core.Bool.{Bool, true, not}
 use mathlib.Core.List.{List, _++_, map}
 use mathlib.Core.Path.{_≡_, refl}
 use mathlib.Core.Logic.{_≢_, _⊎_, inl, inr}
@@ -10,11 +10,11 @@ use mathlib.Core.Option.{Option, none, some}
 use native.Mathlib.Omega.{arith}
 use lib.ListN.{length, replicate, length-replicate}
 use lib.Dec.{eqb}
-use Rattle.base.specs.Choice.{every}
+use Rattle.base.specs.Choice.{pick, every}
 use Rattle.base.proofs.Tests.{lt-yes, le-yes, eq-yes, eq-no, or-first, or-skip, not-is, every-skip}
-use Rattle.base.proofs.Tests.{every-last, pick-yes, tests}
+use Rattle.base.proofs.Tests.{every-last, pick-yes, pick-no, tests}
 use Rattle.rules.specs.Table.{State, edge, colourOf, mostNodes, mostSlots}
-use Rattle.rules.specs.Check.{sizeOk, owedOk, lastOk, bound, cycleOk, countsOk, recordOk}
+use Rattle.rules.specs.Check.{sizeOk, owedOk, lastOk, freeOk, bound, cycleOk, countsOk, recordOk}
 use Rattle.rules.specs.Check.{checkOf, check}
 use Rattle.rules.specs.Facts.{Tells}
 use Rattle.rules.proofs.Checked.{tells-ok}
@@ -23,6 +23,7 @@ use Rattle.rules.specs.declared.Owed.{Owed}
 use Rattle.rules.specs.declared.Owed.the-variants.{Nothing, Node}
 use Rattle.theory.proofs.Steps as S
 use Rattle.theory.proofs.Invariant.{Sizes, Inv}
+use Rattle.theory.proofs.FreeCount.{FreeCount, count-room, count-none}
 use Rattle.theory.proofs.Facts.{owed-lies, last-lies}
 use Rattle.runs.specs.Runs.{kind}
 use Rattle.runs.specs.Start.{Served}
@@ -74,6 +75,7 @@ pub record Sound (E : ℕ) (s : State) : Type 0 where
   pub fits : InLimits E s
   pub inv : InvIn E s (s .rec .phase)
   pub bill : BillIn E s (s .rec .phase)
+  pub free : FreeCount (edge s) (s .rec .free)
 
 pub sizes : {E : ℕ} {s : State} → InLimits E s → Sizes E (s .rec .m) (top s)
 sizes f = record {
@@ -113,6 +115,17 @@ last-ok {r = r} l (inr q) =
     or-skip _ _ _ (eq-no l 1 (omega arith))
     (every-skip _ _ _ (le-yes (r + 2) l (omega arith)) (every-last _ _ (lt-yes _ _ (q .1))))
 
+free-ok : (m r l n : ℕ) → n + suc (suc r) ≤ m
+    → ((l ≡ 1) × (n ≡ 0)) ⊎ ((l ≢ 1) × (n ≢ 0)) → true ≡ freeOk m r l n
+unfolding freeOk
+free-ok m r l n h k = every-skip _ _ _ (le-yes n (m - (r + 2)) (omega arith))
+    (every-last _ _ (none k))
+  where
+    none : ((l ≡ 1) × (n ≡ 0)) ⊎ ((l ≢ 1) × (n ≢ 0)) → true
+        ≡ pick (eqb l 1) (eqb n 0) (not (eqb n 0))
+    none (inl q) = pick-yes _ _ _ _ (eq-yes l 1 (q .0)) (eq-yes n 0 (q .1))
+    none (inr q) = pick-no _ _ _ _ (eq-no l 1 (q .0)) (not-is _ (eq-no n 0 (q .1)))
+
 counts-ok : {E : ℕ} {s : State} → Sound E s → true
     ≡ countsOk (s .rec) (bound E (s .rec .m) (s .rec .r))
 unfolding countsOk cycleOk
@@ -126,7 +139,10 @@ record-ok {s} g =
     let p = phase-ok (view (g .fits .few) (s .rec .phase)) (g .inv .in-phase) (g .bill) in
     let o = owed-ok (s .rec .owed) (λ x q. owed-lies (sizes (g .fits)) (g .inv) q) in
     let l = last-ok (s .rec .last) (last-lies (g .inv)) in
-    search (tests, p, o, l, counts-ok g) depth 7
+    let h = g .inv .shape in
+    let n = free-ok _ _ _ (s .rec .free) (count-room h (sizes (g .fits) .room) (g .free))
+    (count-none h (sizes (g .fits) .fixed) (g .free)) in
+    search (tests, p, o, l, n, counts-ok g) depth 7
 
 pub checked : {E : ℕ} {s : State} → Sound E s → 0 ≡ check s
 unfolding checkOf
@@ -139,7 +155,9 @@ pub record Ready (E : ℕ) (s : State) (ph : S.Phase) : Type 0 where
   pub rows : Rows E (s .rec .m) (s .edges)
   pub fits : InLimits E s
   pub inv : Inv E (s .rec .m) (top s) (stateIn s ph)
+  pub free : FreeCount (edge s) (s .rec .free)
   pub good : 0 ≡ check s
 
 pub ready : {E : ℕ} {s : State} → Sound E s → Ready E s (kind E (s .rec .phase))
-ready g = record { rows = g .rows; fits = g .fits; inv = g .inv; good = checked g }
+ready g = record
+    { rows = g .rows; fits = g .fits; inv = g .inv; free = g .free; good = checked g }

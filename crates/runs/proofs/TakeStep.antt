@@ -1,6 +1,6 @@
 -- From a ready state Shade and Take each do a step of the theory's editor, or are refused with an
 -- allowed code and change nothing.
-use Prim.Native.Nat.{ℕ, suc, _+_, _≤_, _<_}
+use Prim.Native.Nat.{ℕ, suc, _+_, _-_, _≤_, _<_}
 use mathlib.Core.Bool.{false}
 use mathlib.Core.Path.{_≡_, refl, sym, _∙_}
 use mathlib.Core.Logic.{_≢_, _⊎_, inl, inr}
@@ -14,7 +14,7 @@ use Rattle.base.proofs.Tests.{le-yes, le-no, eq-yes, every-here, every-skip, ev
 use Rattle.base.proofs.Tests.{split}
 use Rattle.rules.specs.Table.{State, did, unless, FREE, sides, edge, withEdge, colourOf, shadeIn}
 use Rattle.rules.specs.Table.{shade}
-use Rattle.rules.specs.Records.{withLast}
+use Rattle.rules.specs.Records.{withLast, lessFree}
 use Rattle.rules.specs.Editor.{pay, shadeOwed, badFree, relink, takeNext, takeFirst, take}
 use Rattle.rules.specs.declared.Place.{Place}
 use Rattle.rules.specs.declared.Owed.{Owed}
@@ -55,13 +55,14 @@ module _ {E : ℕ} {s : State} {ph : S.Phase} (g : Ready E s ph) where
         (S.pay
         (shade-is (s .colour) t
         (omega (arith, g .fits .colours, owed-lies (sizes (g .fits)) (g .inv) q))));
+    free = refl;
     code = allowed refl;
     named = λ x q. absurd (none≢some q);
     appends = refl;
     blackens = refl;
     fits = omega (arith, g .fits, length-shade (s .colour) t);
     lengths = refl;
-    same = same (s .rec) Nothing (s .rec .last);
+    same = same (s .rec) Nothing (s .rec .last) (s .rec .free);
   }
 
   pub shade-edited : Edited E s ph (shadeOwed s)
@@ -133,27 +134,30 @@ module _ {E : ℕ} {s : State} {ph : S.Phase} (g : Ready E s ph) where
 
     -- there is no next
     took-last : f ≢ 0 → y ≡ 0 → Edited E s ph
-        (did (Taken f) (relink s n side f y) (withLast (s .rec) FREE))
+        (did (Taken f) (relink s n side f y) (withLast (lessFree (s .rec)) FREE))
     unfolding relink
     took-last f0 y0 = record {
       deed = takes side n f y;
       made = rw (o, colour₃) (S.take (three f0) shaded-f (emptied y0));
+      free = refl;
       code = allowed refl;
       named = λ x q. absurd (none≢some q);
       appends = refl;
       blackens = refl;
       fits = rw colour₃ (omega (arith, g .fits, length-shade (s .colour) f));
       lengths = lengths;
-      same = same (s .rec) (s .rec .owed) FREE;
+      same = same (s .rec) (s .rec .owed) FREE (s .rec .free - 1);
     }
 
-    took : f ≢ 0 → y ≢ 0 → Edited E s ph (did (Taken f) (shade (relink s n side f y) y) (s .rec))
+    took : f ≢ 0 → y ≢ 0 → Edited E s ph
+        (did (Taken f) (shade (relink s n side f y) y) (lessFree (s .rec)))
     unfolding relink
     took f0 y0 = record {
       deed = takes side n f y;
       made =
           rw (o, colour₃) (S.take (three f0) shaded-f
           (shaded y0 (shade-is (shadeIn (s .colour) f) y y-inside)));
+      free = refl;
       code = allowed refl;
       named = λ x q. absurd (none≢some q);
       appends = refl;
@@ -168,7 +172,7 @@ module _ {E : ℕ} {s : State} {ph : S.Phase} (g : Ready E s ph) where
                 (shadeIn (s .colour) f) y,
           ));
       lengths = lengths;
-      same = same (s .rec) (s .rec .owed) (s .rec .last);
+      same = same (s .rec) (s .rec .owed) (s .rec .last) (s .rec .free - 1);
     }
 
     taken : Edited E s ph (takeFirst s side f n)

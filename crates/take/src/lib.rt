@@ -92,7 +92,7 @@ fn take_next(
         return Made {
             answer: Answer::Taken(f),
             changed,
-            rec: x.with_last(1),
+            rec: x.less_free().with_last(1),
         };
     }
     let next = g as usize;
@@ -105,7 +105,7 @@ fn take_next(
     Made {
         answer: Answer::Taken(f),
         changed,
-        rec: x,
+        rec: x.less_free(),
     }
 }
 

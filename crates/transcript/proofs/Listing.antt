@@ -9,8 +9,8 @@ use lib.Seq.{append-snoc}
 use Rattle.base.specs.Choice.{pick, every, first}
 use Rattle.rules.specs.Table.{State, unless, edgeOf, withEdge, cleared, shadeIn, badEdge}
 use Rattle.rules.specs.Records.{oneMore, afterAppend}
-use Rattle.rules.specs.Check.{sizeOk, positionOk, secondOk, phaseOk, owedOk, lastOk, bound}
-use Rattle.rules.specs.Check.{cycleOk, toldOk, countsOk, recordOk, checkOf}
+use Rattle.rules.specs.Check.{sizeOk, positionOk, secondOk, phaseOk, owedOk, lastOk, freeOk}
+use Rattle.rules.specs.Check.{bound, cycleOk, toldOk, countsOk, recordOk, checkOf}
 use Rattle.rules.specs.Fresh.{tabulate, nextFree, freshLeft, freshLast, freshState, fresh}
 use Rattle.rules.specs.Places.{sidesOk, turnsOk, placeCode, walkFrom, arrive}
 use Rattle.rules.specs.Editor.{sideCode, owedCode, look, depart, linkTo, link, pay, shadeOwed}
@@ -138,8 +138,8 @@ opens = refl
 
 done : printed (firstly (First 5 1)) ++ replies (firstly (First 5 1) .state) sayings ≡ lines told
 unfolding pick every first unless edgeOf withEdge cleared shadeIn badEdge oneMore afterAppend sizeOk
-    positionOk secondOk phaseOk owedOk lastOk bound cycleOk toldOk countsOk recordOk checkOf tabulate nextFree freshLeft
-    freshLast
+    positionOk secondOk phaseOk owedOk lastOk freeOk bound cycleOk toldOk countsOk recordOk checkOf
+    tabulate nextFree freshLeft freshLast
     freshState fresh sidesOk turnsOk placeCode walkFrom arrive sideCode owedCode look depart linkTo
     link pay shadeOwed badFree relink takeNext takeFirst take shadeStep afterRoots scanStep edgeStep
     blackStep append appendWhite appendStep phaseStep collect step run follow schedule collects

@@ -281,7 +281,7 @@ isStopped (Stopped m) = true
 
 -- before the first byte
 abbrev pub started : Session
-started = record { stage = Opening; run = record { rec = freshRecord 0 0 0; at = 0; used = 0 } }
+started = record { stage = Opening; run = record { rec = freshRecord 0 0 0 0; at = 0; used = 0 } }
 
 -- what is printed for blocks, one after the other, and then for the end of the input
 unfoldable pub outputs : Stand → List (List ℕ) → List ℕ

@@ -586,6 +586,7 @@ pub fn start() -> Session
         took: 0,
         blackened: 0,
         lastblackened: 0,
+        free: 0,
     };
     let run = Run {
         rec,

@@ -1,6 +1,6 @@
 """Test inputs. The same seed always gives the same bytes.
 
-    python3 generate [--state | --run | --fresh | --load | --inuse] SEED [COUNT [DIR]]
+    python3 generate [--state | --run | --fresh | --load | --inuse | --free] SEED [COUNT [DIR]]
 
 COUNT seeds from SEED on (1 if not told), each into a file SEED.txt in DIR, or one
 after the other to standard output. Without a mode: schedules."""

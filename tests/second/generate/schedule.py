@@ -14,7 +14,7 @@ class Schedule:
     def load(self, export):
         """An export, directly after the first line; the simulation goes on from it."""
         self.lines += export.lines()
-        self.sim.load(export.e, export.last())
+        self.sim.load(export.e, export.last(), len(export.free))
 
     def text(self):
         end = b"\n" if self.rng.random() < 0.8 or self.lines[-1] == b"" else b""

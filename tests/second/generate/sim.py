@@ -26,10 +26,11 @@ class Sim:
             self.e[0][self.last] = n
             self.last = n
         self.steps = self.cycles = self.lastc = self.black = self.lastblack = 0
+        self.free = m - r - 2
 
-    def load(self, edges, last):
+    def load(self, edges, last, free):
         """A sound export, loaded into a new table."""
-        self.e, self.last = [side[:] for side in edges], last
+        self.e, self.last, self.free = [side[:] for side in edges], last, free
 
     def bound(self):
         return self.m * self.m + 5 * self.m + self.r + 2
@@ -56,6 +57,7 @@ class Sim:
         self.e[side][source] = f
         self.e[0][1] = g
         self.e[0][f] = 0
+        self.free -= 1
         self.tint(f)
         if g:
             self.tint(g)
@@ -100,6 +102,7 @@ class Sim:
                 self.e[0][i] = self.e[1][i] = 0
                 self.e[0][self.last] = i
                 self.last = i
+                self.free += 1
             self.col[i] = 0
             self.i += 1
             if self.i == m:

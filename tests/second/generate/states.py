@@ -46,6 +46,16 @@ def plain(rng, sim, kind=None):
     return step
 
 
+def fit(rng, sim):
+    """Last and the count of free nodes made to go together; half of the counts are left
+    as they are, if they may."""
+    top = max(sim.m - sim.r - 2, 1)
+    if sim.last == 1:
+        sim.free = 0
+    elif not 1 <= sim.free <= top or rng.random() < 0.5:
+        sim.free = rng.choice((1, 2, top, rng.randint(1, top)))
+
+
 def collecting(rng, sim):
     """Every phase at every position and its limits, over any good values."""
     m, b, sim.tag = sim.m, sim.bound(), rng.randrange(6)
@@ -58,6 +68,7 @@ def collecting(rng, sim):
     sim.black, sim.lastblack = rng.choice((0, m, rng.randint(0, m))), rng.randint(0, m)
     sim.steps, sim.lastc = rng.choice((0, b - 2, b - 1, rng.randrange(b))), rng.randint(0, b)
     sim.cycles = rng.choice((0, 65535, U32 - 1, U32, U32, rng.randrange(U32)))
+    fit(rng, sim)
     return plain(rng, sim, COLLECT)
 
 
@@ -79,6 +90,7 @@ def collecting_bad(rng, sim):
             free = rng.randrange(sim.r + 2, sim.m)
             ways += [[(v, "i", free), (v, "last", free), (col, free, rng.choice((0, 0, 2)))]]
     make(rng.choice(ways))
+    fit(rng, sim)
     return step
 
 
@@ -117,6 +129,7 @@ def taking(rng, sim):
         [(right, 1, edge), (right, f, edge), (col, 0, colour), (col, 1, colour), (left, n, edge)],
         [(right, f, rng.choice((0, f, g, n))), (right, g, rng.choice((0, f, g, n))),
          (right, n, rng.choice((f, g))), (step, 2, 2), (step, 3, rng.randrange(4))])))
+    fit(rng, sim)
     return step
 
 
@@ -128,7 +141,8 @@ def sizes(rng, sim):
     make(rng.choice((
         [left], [right], [col], [left, right, col], [left, right, col, (v, "m", n)],
         [(v, "m", rng.choice((0, 1, 2, m - 1, m + 1, 4096, 4097, 65535)))],
-        [(v, "r", rng.choice((0, m - 2, m - 1, m, 64, 65, 255, 65535))), (v, "last", 1)])))
+        [(v, "r", rng.choice((0, m - 2, m - 1, m, 64, 65, 255, 65535))), (v, "last", 1),
+         (v, "free", 0)])))
     return step
 
 
@@ -144,7 +158,21 @@ def records(rng, sim):
     if field in "ik":
         sim.tag, sim.k = SCAN if field == "k" else rng.randrange(6), rng.randint(1, m)
     setattr(sim, field, rng.choice(values))
+    if field == "last" and rng.random() < 0.7:
+        fit(rng, sim)
     return step
+
+
+def pairs(rng, sim):
+    """Last and the count of free nodes: good pairs at the limits, and every wrong one."""
+    m, r = sim.m, sim.r
+    top, place = m - r - 2, rng.choice((sim.last, m - 1, rng.randint(min(r + 2, m - 1), m - 1)))
+    some, below = rng.randint(0, top), max(1, top - 1)
+    sim.last, sim.free = rng.choice((
+        (1, 0), (1, 1), (1, top), (1, some), (1, top + 1), (1, 65535), (place, 0), (place, 0),
+        (place, 1), (place, some), (place, below), (place, top), (place, top), (place, top + 1),
+        (place, top + 1), (place, rng.choice((m, 65535))), (rng.choice((0, r + 1, m)), some)))
+    return plain(rng, sim, rng.choice((None, None, None, 5)))
 
 
 def limits(rng, sim):
@@ -175,7 +203,7 @@ def order(rng, sim):
     faults = [(sim.e, 0, left + [0]), (v, "m", m + 1), (v, "last", 0), (v, "lastblack", m + 1),
               (v, "i", 65535), (v, "owed", rng.choice((0, 2, m - 1))), (step, 0, 5), (step, 4, 2),
               (step, 1, r), (step, 2, 13), (step, 3, 4), (first, s + 2, edge), (then, a, edge),
-              (first, s + 2, 0)]
+              (first, s + 2, 0), (v, "free", m), (v, "free", 0 if sim.free else 1)]
     if step[0] == LINK:
         faults += [(step, 5, r), (step, 6, 13), (step, 7, 4), (to, t + 2, edge), (far, c, edge)]
     else:
@@ -194,8 +222,10 @@ def colouring(rng, sim):
         return plain(rng, sim, SHADE)
     if way == 1:
         make([(v, "tag", APPEND), (v, "i", f), (v, "last", g), (sim.col, f, rng.choice((0, 2)))])
+        fit(rng, sim)
         return plain(rng, sim, COLLECT)
     make([(v, "owed", None), (left, 1, f), (left, f, rng.choice((g, g, 0, f))), (v, "last", g)])
+    fit(rng, sim)
     return [TAKE, rng.randrange(sim.r), 0, 0, rng.randrange(2), 0, 0, 0]
 
 
@@ -203,7 +233,8 @@ def colouring(rng, sim):
 STATES = ((plain, 50, 3, 24), (collecting, 80, 3, 24), (collecting_bad, 60, 3, 16),
           (damaged, 120, 4, 16), (taking, 70, 7, 14), (sizes, 30, 3, 24), (records, 60, 3, 24),
           (limits, 70, 3, 12), (order, 80, 10, 14), (colouring, 60, 7, 14),
-          (sizes, 1, 4096, 4096), (records, 1, 4096, 4096))
+          (pairs, 60, 3, 12), (sizes, 1, 4096, 4096), (records, 1, 4096, 4096),
+          (pairs, 1, 4096, 4096))
 
 
 def sound(rng, low, high):
@@ -218,7 +249,7 @@ def sound(rng, low, high):
 def numbers(sim):
     owed = (0, 0) if sim.owed is None else (1, sim.owed)
     out = [sim.m, sim.r, sim.tag, sim.i, sim.k if sim.tag == SCAN else 0, *owed, sim.last,
-           sim.steps, sim.cycles, sim.lastc, sim.black, sim.lastblack]
+           sim.steps, sim.cycles, sim.lastc, sim.black, sim.lastblack, sim.free]
     for array in (*sim.e, sim.col):
         out += [len(array), *array]
     return out
@@ -253,7 +284,8 @@ def run_lines(seed):
 def fresh_lines(seed):
     rng = random.Random(seed)
     for j in range(80):
-        m = rng.choice((*range(6), rng.randint(3, 80), 64, 65, 66, 67)) if j else 4095 + seed % 3
+        m = rng.choice((*range(6), rng.randint(3, 80), 64, 65, 66, 67, rng.randint(259, 500)))
+        m = m if j else 4095 + seed % 3
         r = max(0, rng.choice((0, 1, 2, m - 3, m - 2, m - 1, m, 63, 64, 65, rng.randint(1, 64))))
         line, odd = [m, r], rng.randrange(9)
         for j, top in enumerate((65536, 65536, 256)):
@@ -315,7 +347,7 @@ def load_lines(seed):
 def asked(rng, x):
     """An export as a table in any phase, with any good record and any colours."""
     sim = Sim(x.m, x.r)
-    sim.load(x.e, x.last())
+    sim.load(x.e, x.last(), len(x.free))
     m, b = sim.m, sim.bound()
     sim.tag, sim.i, sim.k = rng.randrange(6), rng.randrange(sim.r + 2), rng.randint(1, m)
     sim.owed = rng.choice((None, 0, rng.randrange(2, m)))
@@ -333,12 +365,25 @@ def inuse_lines(seed):
         else:
             sim = asked(rng, (graphs.table if j < 160 else graphs.large)(rng, j))
         if j % 5 == 2:
-            rng.choice((sizes, records, records))(rng, sim)
+            rng.choice((sizes, records, records, pairs))(rng, sim)
+        yield numbers(sim)
+
+
+def free_lines(seed):
+    """As above, and most of them are about the record."""
+    rng = random.Random(seed)
+    for j in range(122):
+        if j % 3 == 0:
+            sim = sound(rng, 3, 24)
+        else:
+            sim = asked(rng, (graphs.table if j < 120 else graphs.large)(rng, j))
+        if j % 4:
+            rng.choice((pairs, pairs, pairs, records, sizes))(rng, sim)
         yield numbers(sim)
 
 
 MODES = {"": families.schedule, "--state": state_lines, "--run": run_lines, "--fresh": fresh_lines,
-         "--load": load_lines, "--inuse": inuse_lines}
+         "--load": load_lines, "--inuse": inuse_lines, "--free": free_lines}
 
 
 def text_of(mode, seed):

@@ -88,6 +88,7 @@ fn append(table: &mut Table, record: &mut Record, i: usize) -> Reply {
         table.set_edge(i, RIGHT, 0);
         table.set_edge(record.last, LEFT, i);
         record.last = i;
+        record.free += 1;
         did = Did::Appended;
     }
     if i == record.m - 1 {

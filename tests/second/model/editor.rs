@@ -102,7 +102,8 @@ pub fn take(table: &mut Table, record: &mut Record, place: Place, side: usize) -
     if g != 0 {
         table.colour(g)?;
     }
-    // [Take 3] the edges in their order, [Take 4] the shading, [Take 5] last
+    // [Take 3] the edges in their order, [Take 4] the shading, [Take 5] last; the
+    // count falls by one, but not below 0
     table.set_edge(source, side, f);
     table.set_edge(FREE, LEFT, g);
     table.set_edge(f, LEFT, 0);
@@ -112,6 +113,7 @@ pub fn take(table: &mut Table, record: &mut Record, place: Place, side: usize) -
     } else {
         record.last = 1;
     }
+    record.free = record.free.saturating_sub(1);
     // [Take 6] [Take 7]
     answer(Did::Edited, f)
 }

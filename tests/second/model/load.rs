@@ -63,8 +63,9 @@ fn reached_by_slots(export: &Export, m: usize, r: usize) -> Vec<bool> {
     reached
 }
 
-/// Codes 11, 12 and 13, in this order. Answers the chain's end.
-fn judge(export: &Export, m: usize, r: usize) -> Result<usize, Refusal> {
+/// Codes 11, 12 and 13, in this order. Answers the chain's end and how many free
+/// nodes it has.
+fn judge(export: &Export, m: usize, r: usize) -> Result<(usize, usize), Refusal> {
     judge_edges(export, m)?;
     let chain = chain_of(export, r)?;
     let reached = reached_by_slots(export, m, r);
@@ -73,7 +74,7 @@ fn judge(export: &Export, m: usize, r: usize) -> Result<usize, Refusal> {
     if let Some(lowest) = found.min() {
         return refuse_at(FREE_REACHED, lowest);
     }
-    Ok(chain[chain.len() - 1])
+    Ok((chain[chain.len() - 1], chain.len() - 1))
 }
 
 /// All that Load writes into the slices.
@@ -91,18 +92,18 @@ fn judge_and_put(
     export: &Export,
     m: usize,
     r: usize,
-) -> Result<usize, Refusal> {
+) -> Result<(usize, usize), Refusal> {
     let [left, right] = export;
     if !size_is_good(table, m, r) || left.len() != m || right.len() != m {
         return refuse(SIZE);
     }
-    let last = judge(export, m, r)?;
+    let last_and_free = judge(export, m, r)?;
     put(table, export, m);
-    Ok(last)
+    Ok(last_and_free)
 }
 
-/// Answers last; the record is that of a new table but for last, and of a
-/// refused Fresh where the export is refused.
+/// Answers last; the record is that of a new table but for last and the count of
+/// free nodes, and of a refused Fresh where the export is refused.
 pub fn load(
     table: &mut Table,
     export: &Export,
@@ -111,8 +112,8 @@ pub fn load(
 ) -> (Result<usize, Refusal>, Record) {
     let reply = judge_and_put(table, export, m, r);
     let record = match reply {
-        Ok(last) => begin(m, r, last),
+        Ok((last, free)) => begin(m, r, last, free),
         Err(_) => refused(),
     };
-    (reply, record)
+    (reply.map(|(last, _)| last), record)
 }

@@ -1,7 +1,7 @@
 //! A second program, written from the studio's document 01 alone, without a look
-//! at the first, and Load, nodes in use and colours changed from the studio's
-//! requests for them in the same way. The comments cite the rules of docs/RULES.md
-//! that it follows.
+//! at the first, and Load, nodes in use, colours changed and the count of free
+//! nodes from the studio's requests for them in the same way. The comments cite the
+//! rules of docs/RULES.md that it follows.
 //!
 //!     rustc -O main.rs -o model
 //!
@@ -10,7 +10,7 @@
 //! `model --state` reads one state and one step per line, as decimal numbers
 //! between single blanks (shown here in pieces):
 //!
-//!     M R phase i k owing owed last steps cycles last-steps blackened blackened-last-cycle
+//!     M R phase i k owing owed last steps cycles last-steps blackened blackened-last-cycle free
 //!     len left[0] .. len right[0] .. len colour[0] ..
 //!     kind slot count word side toslot tocount toword
 //!
@@ -46,12 +46,15 @@
 //!     code node, then M R .. colour.. as they are afterwards
 //!
 //! node is last where code is 0, the node refused where code is 11, 12 or 13,
-//! and 0 where it is 1. The record printed (M to blackened-last-cycle) is all 0
-//! where code is not 0, and the slices are then as they were.
+//! and 0 where it is 1. The record printed (M to free) is all 0 where code is not
+//! 0, and the slices are then as they were.
 //!
 //! `model --inuse` reads a record and the three slices as `--state` does, without
 //! a step, and answers: code number. number is that of the nodes in use where code
 //! is 0, the node refused where it is 7, else 0.
+//!
+//! `model --free` reads the same and answers: code count, with the count of free
+//! nodes where code is 0, else 0.
 
 mod answer;
 mod collector;
@@ -79,8 +82,9 @@ fn main() {
         ["--fresh"] => states::program(&mut input, &mut output, states::fresh_line),
         ["--load"] => states::program(&mut input, &mut output, states::load_line),
         ["--inuse"] => states::program(&mut input, &mut output, states::inuse_line),
+        ["--free"] => states::program(&mut input, &mut output, states::free_line),
         _ => {
-            eprintln!("usage: model [--state | --run | --fresh | --load | --inuse]");
+            eprintln!("usage: model [--state | --run | --fresh | --load | --inuse | --free]");
             std::process::exit(2);
         }
     };

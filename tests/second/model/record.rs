@@ -24,8 +24,8 @@ impl Phase {
     }
 }
 
-/// [Record 1] the record: [Record 4] the shade owed, [Record 5] last, and the
-/// counts [Record 6] [Record 7] [Record 8] [Record 9] [Record 10]
+/// [Record 1] the record: [Record 4] the shade owed, [Record 5] last, the counts
+/// [Record 6] [Record 7] [Record 8] [Record 9] [Record 10] and that of the free nodes
 #[derive(Clone, Copy)]
 pub struct Record {
     pub m: usize,
@@ -38,13 +38,14 @@ pub struct Record {
     pub last_cycle_steps: usize,
     pub blackened: usize,
     pub blackened_last_cycle: usize,
+    pub free: usize,
 }
 
 /// [Record 7]
 pub const LARGEST_CYCLES: usize = 4_294_967_295;
 
 /// [Fresh 5] the record of a new table
-pub fn begin(m: usize, r: usize, last: usize) -> Record {
+pub fn begin(m: usize, r: usize, last: usize, free: usize) -> Record {
     Record {
         m,
         r,
@@ -56,12 +57,13 @@ pub fn begin(m: usize, r: usize, last: usize) -> Record {
         last_cycle_steps: 0,
         blackened: 0,
         blackened_last_cycle: 0,
+        free,
     }
 }
 
 /// [Fresh 7] [Fresh 8] the record of one that was refused
 pub fn refused() -> Record {
-    begin(0, 0, 0)
+    begin(0, 0, 0, 0)
 }
 
 /// [Fresh 1] makes a new table of m nodes and r slots
@@ -81,7 +83,7 @@ pub fn fresh(table: &mut Table, m: usize, r: usize) -> (usize, Record) {
         table.set_edge(last, LEFT, node);
         last = node;
     }
-    (DONE, begin(m, r, last))
+    (DONE, begin(m, r, last, m - r - 2))
 }
 
 /// [Table 1] the sizes' range, and [Codes 1] the lengths of the arrays
@@ -104,6 +106,13 @@ impl Record {
             Phase::Scan(i, k) => i < self.m && k >= 1 && k <= self.m,
             other => other.position() < self.m,
         }
+    }
+
+    /// The count of free nodes is 0 exactly when last is 1.
+    fn free_goes_with_last(&self) -> bool {
+        let none_with_last = self.free == 0 && self.last != 1;
+        let some_without_last = self.free != 0 && self.last == 1;
+        !none_with_last && !some_without_last
     }
 
     /// Codes 1 and 2, in this order.
@@ -135,6 +144,16 @@ impl Record {
         if self.steps >= self.bound() || self.last_cycle_steps > self.bound() {
             return refuse(RECORD);
         }
+        // the count of free nodes
+        if self.free > self.m - self.r - 2 || !self.free_goes_with_last() {
+            return refuse(RECORD);
+        }
         Ok(())
+    }
+
+    /// How many nodes are free: the count, and no look at the chain.
+    pub fn count_free(&self, table: &Table) -> Result<usize, Refusal> {
+        self.judge(table)?;
+        Ok(self.free)
     }
 }

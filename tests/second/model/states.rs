@@ -1,9 +1,9 @@
-//! The modes --state, --run, --fresh, --load and --inuse.
+//! The modes --state, --run, --fresh, --load, --inuse and --free.
 
 use std::convert::TryFrom;
 use std::io::{self, BufRead, Write};
 
-use crate::answer::DONE;
+use crate::answer::{Refusal, DONE};
 use crate::editor::Place;
 use crate::inuse::nodes_in_use;
 use crate::load::load;
@@ -49,6 +49,7 @@ impl<'a> Numbers<'a> {
             last_cycle_steps: self.take()?,
             blackened: self.take()?,
             blackened_last_cycle: self.take()?,
+            free: self.take()?,
         })
     }
 
@@ -97,7 +98,8 @@ fn show(record: &Record, table: &Table) -> String {
     let (owing, owed) = record.owed.map_or((0, 0), |node| (1, node));
     let mut numbers = vec![record.m, record.r, tag, record.phase.position(), k];
     numbers.extend([owing, owed, record.last, record.steps, record.cycles]);
-    numbers.extend([record.last_cycle_steps, record.blackened, record.blackened_last_cycle]);
+    numbers.extend([record.last_cycle_steps, record.blackened]);
+    numbers.extend([record.blackened_last_cycle, record.free]);
     for edges in &table.edges {
         numbers.push(edges.len());
         numbers.extend(edges.iter().map(|&edge| edge as usize));
@@ -129,7 +131,8 @@ pub fn run_line(numbers: &mut Numbers) -> Option<String> {
     let steps: Vec<Step> = (0..count).map(|_| numbers.step()).collect::<Option<_>>()?;
     numbers.end()?;
     let (done, code, changed) = do_run(&mut table, &mut record, &steps);
-    Some(format!("{} {} {} {}", done, code, changed, show(&record, &table)))
+    let after = show(&record, &table);
+    Some(format!("{} {} {} {}", done, code, changed, after))
 }
 
 pub fn fresh_line(numbers: &mut Numbers) -> Option<String> {
@@ -153,15 +156,26 @@ pub fn load_line(numbers: &mut Numbers) -> Option<String> {
     Some(format!("{} {} {}", code, node, show(&record, &table)))
 }
 
+fn show_count(reply: Result<usize, Refusal>) -> String {
+    let (code, number) = match reply {
+        Ok(count) => (DONE, count),
+        Err(refusal) => (refusal.code, refusal.node),
+    };
+    format!("{} {}", code, number)
+}
+
 pub fn inuse_line(numbers: &mut Numbers) -> Option<String> {
     let record = numbers.record()?;
     let table = numbers.table()?;
     numbers.end()?;
-    let (code, number) = match nodes_in_use(&table, &record) {
-        Ok(count) => (DONE, count),
-        Err(refusal) => (refusal.code, refusal.node),
-    };
-    Some(format!("{} {}", code, number))
+    Some(show_count(nodes_in_use(&table, &record)))
+}
+
+pub fn free_line(numbers: &mut Numbers) -> Option<String> {
+    let record = numbers.record()?;
+    let table = numbers.table()?;
+    numbers.end()?;
+    Some(show_count(record.count_free(&table)))
 }
 
 pub fn program(

@@ -51,7 +51,8 @@ pub fn do_step(table: &mut Table, record: &mut Record, step: &Step) -> Reply {
 pub fn do_and_count(table: &mut Table, record: &mut Record, step: &Step) -> (Reply, usize) {
     let before = table.colours.clone();
     let reply = do_step(table, record, step);
-    let changed = before.iter().zip(&table.colours).filter(|(was, is)| was != is).count();
+    let pairs = before.iter().zip(&table.colours);
+    let changed = pairs.filter(|(was, is)| was != is).count();
     (reply, changed)
 }
 

@@ -15,7 +15,7 @@ use Rattle.rules.specs.Schedules.{collects}
 use Rattle.rules.specs.Changes.{changesAll}
 use Rattle.batch.proofs.StrideAndStep.{refused-end, gone-on, spoilt-end, none-left}
 use Rattle.batch.proofs.StrideAndStep.{refused-summed, on-summed, spoilt-summed}
-use Rattle.batch.proofs.StrideAndStep.{none-summed}
+use Rattle.batch.proofs.StrideAndStep.{none-summed, sizes-still}
 use Rattle.batch.proofs.all_steps.Statement.{statement}
 use Rattle.batch.proofs.all_steps.Tie as tie
 
@@ -117,8 +117,13 @@ add-done-2 c =
       at-step .stride-and-step .ensures .0,
     )
 
-cycle-ok-requires : tie.Need-cycle-ok-requires Inv-loop μ-loop
-cycle-ok-requires c κs = search needs
+in-limits-requires : tie.Need-in-limits-requires Inv-loop μ-loop
+in-limits-requires c κs =
+    let at-step = c .before .before .before .before .before .before .before .before .before .before
+    .before in
+    let at-loop = at-step .before .before .before .before .before in
+    let gone = at-step .stride-and-step .ensures .1 in
+    sizes-still _ _ _ _ _ _ (at-loop .loop .inv .4) (gone .m) (gone .r)
 
 ended-requires : tie.Need-ended-requires Inv-loop μ-loop
 ended-requires c κs = search needs
@@ -151,7 +156,7 @@ returns-2 c =
     let at-test = at-step .before .before .before .before in
     let at-loop = at-test .before in
     let gone = at-step .stride-and-step .ensures .1 in
-    let spoilt = not-yes _ (c .before .if2 .taken) ∙ c .before .before .cycle-ok .ensures in
+    let spoilt = not-yes _ (c .before .if2 .taken) ∙ c .before .before .in-limits .ensures in
     let done = sym (c .before .before .before .before .code .ensures)
     ∙ c .before .before .before .if1 .left in (
       spoilt-end _ _ _ _ _ _ gone spoilt done _ _ _ _
@@ -184,7 +189,7 @@ loop-again c =
       omega (arith, at-right .right .given, at-loop .loop .inv .1),
       omega (arith, at-colour .colour .given, at-loop .loop .inv .2),
       omega (arith, lt, most),
-      gone .passes (not-no _ (c .if2 .left) ∙ c .before .cycle-ok .ensures),
+      gone .passes (not-no _ (c .if2 .left) ∙ c .before .in-limits .ensures),
       rw (gone .m, gone .r) (at-loop .loop .inv .5),
       at-loop .loop .inv .6
           ∙ gone-on _ _ _ _ _ _ gone _ _ _ _ (omega (arith, lt, most)) done,
@@ -225,7 +230,7 @@ all-steps-spec =
     same-length-3
     returns
     add-done-2
-    cycle-ok-requires
+    in-limits-requires
     ended-requires
     same-length-4
     same-length-5

@@ -1,13 +1,14 @@
 -- Past the two refusals the three writes are those of the definition, in its order: node i and
 -- last lie in the table.
 use Prim.Native.Nat.{_<_}
-use mathlib.Core.Path.{refl}
+use mathlib.Core.Path.{refl, ap, _∙_}
 use lib.ListN.{length}
 use denote.Ref.{now}
 use native.Mathlib.Omega.{arith}
 use borrow.Author.Needs.{needs}
 use Rattle.base.proofs.Tests.{tests}
 use Rattle.rules.specs.Table.{withEdge, cleared}
+use Rattle.rules.specs.Records.{moreFree}
 use Rattle.rules.specs.Collector.{append, appendWhite}
 use Rattle.rules.proofs.Laws.{same}
 use Rattle.collector.proofs.append_white.Statement.{statement}
@@ -60,10 +61,15 @@ slice-write-left-2 c =
 with-last-requires : tie.Need-with-last-requires
 with-last-requires c κs = search needs
 
-after-append-requires : tie.Need-after-append-requires
-after-append-requires c κs =
+more-free-requires : tie.Need-more-free-requires
+more-free-requires c κs =
     let at-entry = c .before .before .before .before .before .before .before .before in
     rw (c .with-last .ensures) (omega (arith, at-entry .pre))
+
+after-append-requires : tie.Need-after-append-requires
+after-append-requires c κs =
+    let at-entry = c .before .before .before .before .before .before .before .before .before in
+    rw (c .more-free .ensures, c .before .with-last .ensures) (omega (arith, at-entry .pre))
 
 same-length : tie.Need-same-length
 same-length c = search needs
@@ -74,7 +80,8 @@ same-length-2 c = search needs
 returns-3 : tie.Need-returns-3
 unfolding appendWhite append withEdge cleared
 returns-3 c =
-    (λ k. rw (← c .before .with-last .ensures) (search (same, tests, needs) depth 12), refl)
+    let grown = c .before .more-free .ensures ∙ ap moreFree (c .before .before .with-last .ensures)
+    in (λ k. rw (← grown) (search (same, tests, needs) depth 12), refl)
 
 pub append-white-spec : {M : Type 1} → statement M
 append-white-spec =
@@ -93,6 +100,7 @@ append-white-spec =
     mul-left-2
     slice-write-left-2
     with-last-requires
+    more-free-requires
     after-append-requires
     same-length
     same-length-2

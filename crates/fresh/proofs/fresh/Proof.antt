@@ -5,6 +5,7 @@ use borrow.Author.Needs.{needs}
 use Rattle.base.proofs.Tests.{facts, each, not-no, not-yes, pick-yes, pick-no}
 use Rattle.rules.specs.Check.{sizeOk}
 use Rattle.rules.specs.Fresh.{fresh}
+use Rattle.rules.proofs.Laws.{same}
 use Rattle.fresh.proofs.fresh.Statement.{statement}
 use Rattle.fresh.proofs.fresh.Tie as tie
 
@@ -51,6 +52,22 @@ last-of-requires c κs =
     let at-size-ok = at-if1 .before in
     omega (facts, each _ (not-no _ (at-if1 .if1 .left) ∙ at-size-ok .size-ok .ensures))
 
+add-free : tie.Need-add-free
+unfolding sizeOk
+add-free c =
+    let at-if1 = c .before .before .before .before .before .before .before .before .before .before
+    .before in
+    let at-size-ok = at-if1 .before in
+    omega (facts, each _ (not-no _ (at-if1 .if1 .left) ∙ at-size-ok .size-ok .ensures))
+
+sub-free : tie.Need-sub-free
+unfolding sizeOk
+sub-free c =
+    let at-if1 = c .before .before .before .before .before .before .before .before .before .before
+    .before in
+    let at-size-ok = at-if1 .before in
+    omega (facts, each _ (not-no _ (at-if1 .if1 .left) ∙ at-size-ok .size-ok .ensures))
+
 fresh-requires-2 : tie.Need-fresh-requires-2
 fresh-requires-2 c κs = search needs
 
@@ -70,7 +87,8 @@ returns-2 c =
     let at-if1 = at-fill .before .before .before .before in
     let at-size-ok = at-if1 .before in (
       pick-yes _ _ _ _ (not-no _ (at-if1 .if1 .left) ∙ at-size-ok .size-ok .ensures)
-          (rw (← at-fill .fill .ensures, ← c .before .last-of .ensures) (cc)),
+          (rw (← at-fill .fill .ensures, ← c .before .last-of .ensures)
+          (same _ _ _ _ _ _ _ _ refl (c .fresh2 .ensures) refl refl)),
       refl,
     )
 
@@ -86,6 +104,8 @@ fresh-spec =
     cast-slots
     fill-requires
     last-of-requires
+    add-free
+    sub-free
     fresh-requires-2
     same-length
     same-length-2

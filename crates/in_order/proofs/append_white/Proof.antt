@@ -1,5 +1,6 @@
 -- `append_white` meets its contract: where the node is no root and not the end of the free list,
--- the three writes are what the step of Append writes. Where it is one of them, nothing is done.
+-- and one more may be free, the three writes are what the step of Append writes. Else nothing is
+-- done.
 use mathlib.Core.Path.{refl}
 use lib.ListN.{length-set}
 use native.Mathlib.Omega.{arith}
@@ -20,33 +21,61 @@ returns c = (omega arith, stays _ _ _ _ _ (c .before .before .pre .0))
 returns-2 : tie.Need-returns-2
 returns-2 c = (omega arith, stays _ _ _ _ _ (c .before .before .before .pre .0))
 
+cast-if3 : tie.Need-cast-if3
+cast-if3 c = search needs
+
+cast-if3-2 : tie.Need-cast-if3-2
+cast-if3-2 c = search needs
+
+add-if3 : tie.Need-add-if3
+add-if3 c =
+    let g = at _ _ _ _ _ (c .before .before .before .before .before .pre .0) in omega arith
+
+add-if3-2 : tie.Need-add-if3-2
+add-if3-2 c =
+    let g = at _ _ _ _ _ (c .before .before .before .before .before .pre .0) in omega arith
+
+returns-3 : tie.Need-returns-3
+returns-3 c =
+    (omega arith, stays _ _ _ _ _ (c .before .before .before .before .before .before .pre .0))
+
 mul-left : tie.Need-mul-left
 mul-left c = search needs
 
 slice-write-left : tie.Need-slice-write-left
-slice-write-left c = let g = at _ _ _ _ _ (c .before .before .before .pre .0) in omega arith
+slice-write-left c =
+    let g = at _ _ _ _ _ (c .before .before .before .before .before .before .pre .0) in omega arith
 
 mul-right : tie.Need-mul-right
 mul-right c = search needs
 
 slice-write-right : tie.Need-slice-write-right
-slice-write-right c = let g = at _ _ _ _ _ (c .before .before .before .pre .0) in omega arith
+slice-write-right c =
+    let g = at _ _ _ _ _ (c .before .before .before .before .before .before .pre .0) in omega arith
 
 cast-left : tie.Need-cast-left
 cast-left c = search needs
 
 mul-left-2 : tie.Need-mul-left-2
-mul-left-2 c = let g = at _ _ _ _ _ (c .before .before .before .pre .0) in omega arith
+mul-left-2 c =
+    let g = at _ _ _ _ _ (c .before .before .before .before .before .before .pre .0) in omega arith
 
 slice-write-left-2 : tie.Need-slice-write-left-2
-slice-write-left-2 c = let g =
-    at _ _ _ _ _ (c .before .before .before .pre .0) in simp length-set (omega arith)
+slice-write-left-2 c =
+    let g = at _ _ _ _ _ (c .before .before .before .before .before .before .pre .0) in
+    simp length-set (omega arith)
+
+add-t10 : tie.Need-add-t10
+add-t10 c = search needs
 
 add-t9 : tie.Need-add-t9
-add-t9 c = search needs
+add-t9 c =
+    let g = at _ _ _ _ _ (c .before .before .before .before .before .before .pre .0) in omega arith
 
-add-t8 : tie.Need-add-t8
-add-t8 c = let g = at _ _ _ _ _ (c .before .before .before .before .pre .0) in omega arith
+add-t12 : tie.Need-add-t12
+add-t12 c =
+    let g = at _ _ _ _ _ (c .before .before .before .before .before .before .before .pre .0) in
+    omega arith
 
 same-length : tie.Need-same-length
 same-length c = search needs
@@ -54,14 +83,14 @@ same-length c = search needs
 same-length-2 : tie.Need-same-length-2
 same-length-2 c = search needs
 
-returns-3 : tie.Need-returns-3
-returns-3 c = let g =
-    at _ _ _ _ _ (c .before .before .before .before .pre .0) in (
+returns-4 : tie.Need-returns-4
+returns-4 c =
+    let at-entry = c .before .before .before .before .before .before .before in
+    let g = at _ _ _ _ _ (at-entry .pre .0) in (
       omega arith,
-      appends _ _ _ _ _ (c .before .before .before .before .pre .0) _
-          (c .before .before .before .before .pre .1 .0)
-          (c .before .before .before .before .pre .1 .1 .0) refl refl refl refl
-          (c .before .before .before .before .pre .1 .1 .1) (omega arith) (c .before .if2 .left),
+      appends _ _ _ _ _ (at-entry .pre .0) _ (at-entry .pre .1 .0) (at-entry .pre .1 .1 .0) refl
+          refl refl refl refl (at-entry .pre .1 .1 .1) (omega arith)
+          (c .before .before .before .before .if2 .left) (omega arith),
     )
 
 pub append-white-spec : {M : Type 1} → statement M
@@ -72,6 +101,11 @@ append-white-spec =
     add-if1
     returns
     returns-2
+    cast-if3
+    cast-if3-2
+    add-if3
+    add-if3-2
+    returns-3
     mul-left
     slice-write-left
     mul-right
@@ -79,8 +113,9 @@ append-white-spec =
     cast-left
     mul-left-2
     slice-write-left-2
+    add-t10
     add-t9
-    add-t8
+    add-t12
     same-length
     same-length-2
-    returns-3)
+    returns-4)

@@ -10,9 +10,12 @@ use Rattle.in_order.proofs.appends.Tie as tie
 cast-t10 : tie.Need-cast-t10
 cast-t10 c = search needs
 
+cast-t11 : tie.Need-cast-t11
+cast-t11 c = search needs
+
 appending-requires : tie.Need-appending-requires
 appending-requires c κs =
-    let at-entry = c .before .before .before .before .before .before .before in (
+    let at-entry = c .before .before .before .before .before .before .before .before in (
       begins _ _ _ _ _ (at-entry .pre .1 .1) (at-entry .pre .0),
       (at-entry .pre .1 .0, (omega arith, omega arith)),
     )
@@ -34,7 +37,8 @@ same-length-3 c = search needs
 returns : tie.Need-returns
 returns c =
     let at-appending = c .before .before .before .before .before .before .before in
-    let at-entry = at-appending .before .before .before .before .before .before .before .before in (
+    let at-entry = at-appending .before .before .before .before .before .before .before .before
+    .before in (
       at-appending .appending .ensures .0,
       rw (c .swept .ensures)
           (ends _ _ _ _ _ _ _ _ (at-entry .pre .1 .1)
@@ -46,6 +50,7 @@ appends-spec =
     tie.close
     (tie.spec
     cast-t10
+    cast-t11
     appending-requires
     swept-requires
     same-length

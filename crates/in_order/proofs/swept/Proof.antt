@@ -13,6 +13,9 @@ add-x c = search needs
 cast-x-2 : tie.Need-cast-x-2
 cast-x-2 c = search needs
 
+cast-x-3 : tie.Need-cast-x-3
+cast-x-3 c = search needs
+
 cast-t4 : tie.Need-cast-t4
 cast-t4 c = search needs
 
@@ -24,4 +27,4 @@ unfolding swept
 returns c = search needs
 
 pub swept-spec : {M : Type 1} → statement M
-swept-spec = tie.close (tie.spec cast-x add-x cast-x-2 cast-t4 with-phase-requires returns)
+swept-spec = tie.close (tie.spec cast-x add-x cast-x-2 cast-x-3 cast-t4 with-phase-requires returns)

@@ -26,7 +26,7 @@ fresh-requires c κs = search needs
 returns : tie.Need-returns
 returns c =
     let at-judge = c .before .before .before in (
-      load-refused _ _ _ _ _ _ _ _ (at-judge .judge .ensures)
+      load-refused _ _ _ _ _ _ _ _ (at-judge .judge .ensures .0)
           (λ q. c .before .if1 .taken (c .before .before .code .ensures ∙ q)) (c .fresh .ensures),
       refl,
     )
@@ -62,12 +62,13 @@ returns-2 c =
     let at-code = c .before .before .before .before .before .before .before .before .before .before
     .before .before .before .before in
     let at-judge = at-code .before .before in
-    let at-entry = at-judge .before .before .before .before .before .before in (
-      load-done _ _ _ _ _ _ _ _ _ _ _ _ _ _ (at-judge .judge .ensures)
-          (sym (at-code .before .code .ensures) ∙ at-code .if1 .left) (at-copy .copy .ensures)
+    let at-entry = at-judge .before .before .before .before .before .before in
+    let passed = sym (at-code .before .code .ensures) ∙ at-code .if1 .left in (
+      load-done _ _ _ _ _ _ _ _ _ _ _ _ _ _ _ (at-judge .judge .ensures .0)
+          passed (at-copy .copy .ensures)
           (at-copy2 .copy2 .ensures) (at-entry .pre .1 .1 .1 .1 .1 .1 .1 .0)
           (c .before .before .before .before .whiten .ensures) (c .before .node .ensures)
-          (c .fresh2 .ensures),
+          (at-judge .judge .ensures .1 passed) (c .fresh2 .ensures),
       refl,
     )
 

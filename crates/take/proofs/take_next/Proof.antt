@@ -1,10 +1,12 @@
 -- The tests stand in the definition's order. An edge of the free list that is not bad leads into
 -- the table, so both colours can be read and both nodes shaded.
-use mathlib.Core.Path.{refl, sym, _∙_}
+use mathlib.Core.Path.{refl, sym, ap, _∙_}
 use native.Mathlib.Omega.{arith}
 use borrow.Author.Needs.{needs}
 use Rattle.base.proofs.Tests.{tests, pick-yes, pick-no, eq-yes, lt-no, eq-no}
 use Rattle.rules.specs.Editor.{relink, takeNext}
+use Rattle.rules.specs.Records.{withLast}
+use Rattle.rules.specs.declared.Record.{Record}
 use Rattle.rules.proofs.Changes.{unchanged}
 use Rattle.rules.proofs.Laws.{fine-free}
 use Rattle.places.proofs.Arrivals.{leaves, leaves-shaded}
@@ -45,6 +47,9 @@ returns-2 c =
 relink-requires : tie.Need-relink-requires
 relink-requires c κs = omega arith
 
+less-free-requires : tie.Need-less-free-requires
+less-free-requires c κs = search needs
+
 with-last-requires : tie.Need-with-last-requires
 with-last-requires c κs = search needs
 
@@ -60,7 +65,7 @@ same-length-3 c = search needs
 returns-3 : tie.Need-returns-3
 unfolding takeNext
 returns-3 c =
-    let at-relink = c .before .before .before .before .before .before .before in
+    let at-relink = c .before .before .before .before .before .before .before .before in
     let at-if3 = at-relink .before .before .before .before in
     let at-if2 = at-if3 .before in
     let at-if1 = at-if2 .before .before in
@@ -70,7 +75,9 @@ returns-3 c =
           (pick-no _ _ _ _ (lt-no _ _ (at-if2 .if2 .left))
           (pick-yes _ _ _ _ (eq-yes _ _ (at-if3 .if3 .taken))
           (leaves _ (at-entry .args .x) _ _ _ _ _ _
-          (at-relink .relink .ensures .0 (at-entry .args .x)) (c .with-last .ensures)))),
+          (at-relink .relink .ensures .0 (at-entry .args .x))
+          (c .with-last .ensures ∙ ap (λ (y : Record). withLast y 1)
+          (c .before .less-free .ensures))))),
       at-relink .relink .ensures .1 .1,
     )
 
@@ -111,6 +118,9 @@ add-changed c =
     let a = at-most-one _ _ _ _ (taken .1 .0) (taken .1 .1) in
     let b = at-most-one _ _ _ _ (after .0) (after .1) in omega arith
 
+less-free-requires-2 : tie.Need-less-free-requires-2
+less-free-requires-2 c κs = search needs
+
 same-length-4 : tie.Need-same-length-4
 same-length-4 c = search needs
 
@@ -124,7 +134,7 @@ returns-5 : tie.Need-returns-5
 unfolding takeNext
 returns-5 c =
     let at-relink2 = c .before .before .before .before .before .before .before .before .before
-    .before in
+    .before .before in
     let at-if4 = at-relink2 .before .before .before .before in
     let at-if3 = at-if4 .before .before in
     let at-if2 = at-if3 .before in
@@ -133,13 +143,13 @@ returns-5 c =
     let at-entry = at-bad-free .before .before .before .before in
     let next = fine-free _ _ _ (sym (at-if1 .if1 .left) ∙ at-bad-free .bad-free .ensures) in
     let taken = at-relink2 .relink2 .ensures in
-    let after = c .before .before .shade-node .ensures in (
+    let after = c .before .before .before .shade-node .ensures in (
       pick-no _ _ _ _ (sym (at-if1 .if1 .left) ∙ at-bad-free .bad-free .ensures)
           (pick-no _ _ _ _ (lt-no _ _ (at-if2 .if2 .left))
           (pick-no _ _ _ _ (eq-no _ _ (at-if3 .if3 .left))
           (pick-no _ _ _ _ (lt-no _ _ (at-if4 .if4 .left))
-          (leaves-shaded _ (at-entry .args .x) _ _ _ _ _ _ _
-          (taken .0 (at-entry .args .x)) (after .0))))),
+          (rw (c .less-free2 .ensures) (leaves-shaded _ (at-entry .args .x) _ _ _ _ _ _ _
+          (taken .0 (at-entry .args .x)) (after .0)))))),
       summed _ _ _ _ _ _ _ (omega (arith, at-entry .pre)) (omega (arith, at-entry .pre))
           (taken .1 .0) (after .0) (taken .1 .1) (after .1),
     )
@@ -155,6 +165,7 @@ take-next-spec =
     refusal-requires-2
     returns-2
     relink-requires
+    less-free-requires
     with-last-requires
     same-length
     same-length-2
@@ -166,6 +177,7 @@ take-next-spec =
     relink-requires-2
     shade-node-requires
     add-changed
+    less-free-requires-2
     same-length-4
     same-length-5
     same-length-6
