@@ -97,7 +97,7 @@ static uint64_t ended; /* the hash after the last run */
 /* One run of n steps, in calls of each steps where the variant takes more than one; the time. */
 static double run(int variant, size_t n, size_t each) {
     struct record x = start;
-    struct answer a = {NAMED, 0, 0};
+    struct answer a = {NAMED, 0, 0, 0};
     uint32_t w[JENTURIK_WORDS];
     size_t done = 0;
     words_of(w, &x);

@@ -22,10 +22,10 @@ struct place {
 };
 
 static struct answer refuse(int code, uint16_t node) {
-    return (struct answer){REFUSED, code, node};
+    return (struct answer){REFUSED, code, 0, node};
 }
 
-static struct answer done(int kind, uint16_t node) { return (struct answer){kind, 0, node}; }
+static struct answer done(int kind, uint16_t node) { return (struct answer){kind, 0, 0, node}; }
 
 /* The editor's steps. */
 
@@ -74,7 +74,7 @@ static struct answer shade(void) {
     int code = plain_check(&table, &rec);
     if (code) return refuse(code, 0);
     if (!rec.owes) return refuse(6, 0);
-    if (colour[rec.owed] > 2) return refuse(7, rec.owed);
+    if (colour[rec.owed] > 2) return refuse(14, rec.owed);
     shade_node(rec.owed);
     rec.owes = 0;
     return done(SHADED, rec.owed);
@@ -93,8 +93,9 @@ static struct answer take(const struct place *p, int side) {
     if (bad_free(f)) return refuse(7, 1);
     if (f == 0) return refuse(9, 0);
     g = left[f];
-    if (bad_free(g) || colour[f] > 2) return refuse(7, f);
-    if (g != 0 && colour[g] > 2) return refuse(7, g);
+    if (bad_free(g)) return refuse(7, f);
+    if (colour[f] > 2) return refuse(14, f);
+    if (g != 0 && colour[g] > 2) return refuse(14, g);
     *edge(source, side) = f;
     left[1] = g;
     left[f] = 0;

@@ -55,7 +55,7 @@ static void run(int variant) {
     if (variant == LIBRARY) {
         jenturik_told a =
             jenturik_load(left, M, right, M, colour, M, words, lefts, M, rights, M, M, R);
-        told.kind = a.what, told.code = a.code, told.node = a.node;
+        told.kind = a.what, told.code = a.code, told.detail = a.detail, told.node = a.node;
         return;
     }
 #ifdef CLANG

@@ -53,14 +53,11 @@ static uint32_t below(uint32_t n) {
     return (uint32_t)(((uint64_t)x * n) >> 32);
 }
 
-static void stop(const char *call, uint32_t code, uint32_t node) {
-    const char *why =
-        code == JENTURIK_BAD_SIZE || code == JENTURIK_BAD_RECORD || code == JENTURIK_DAMAGED
-            ? "something else has written into the table" /* once there is a table, these three
-                                                             cannot come otherwise */
-            : "the viewer asked for what it must not";
+/* The text says what was met; its node is beside it. Once there is a table, damage can come only
+ * from something else that has written into it. */
+static void stop(const char *call, uint32_t code, uint32_t detail, uint32_t node) {
     fprintf(stderr, "viewer: %s: code %u, node %u: %s\n", call, (unsigned)code, (unsigned)node,
-            why);
+            jenturik_code_text(code, detail));
     exit(1);
 }
 
@@ -69,9 +66,9 @@ static void stop(const char *call, uint32_t code, uint32_t node) {
 #define LINK(source, side, target) linked(jenturik_link(TABLE, source, side, target))
 
 static void linked(jenturik_told a) {
-    if (a.code != JENTURIK_DONE) stop("link", a.code, a.node);
+    if (a.code != JENTURIK_DONE) stop("link", a.code, a.detail, a.node);
     a = jenturik_shade(TABLE);
-    if (a.code != JENTURIK_DONE) stop("shade", a.code, a.node);
+    if (a.code != JENTURIK_DONE) stop("shade", a.code, a.detail, a.node);
 }
 
 /* Takes a node for a new material and hangs it on an edge. Answers 0 where no node is free: the
@@ -90,7 +87,7 @@ static int hung(jenturik_told a, uint32_t light) {
     case JENTURIK_SOURCE_IS_NIL: /* the pane has no glass to tint */
         return 1;
     default:
-        stop("take", a.code, a.node);
+        stop("take", a.code, a.detail, a.node);
         return 0;
     }
 }
@@ -163,13 +160,13 @@ static unsigned draw(void) {
  * and what lies on the bench. */
 static unsigned count_in_use(void) {
     jenturik_told a = jenturik_in_use(TABLE);
-    if (a.code != JENTURIK_DONE) stop("in_use", a.code, a.node);
+    if (a.code != JENTURIK_DONE) stop("in_use", a.code, a.detail, a.node);
     return a.node;
 }
 
 static unsigned count_free(void) {
     jenturik_told a = jenturik_free_count(TABLE);
-    if (a.code != JENTURIK_DONE) stop("free_count", a.code, a.node);
+    if (a.code != JENTURIK_DONE) stop("free_count", a.code, a.detail, a.node);
     return a.node;
 }
 
@@ -187,7 +184,7 @@ int main(void) {
         if (frame == 8 * FRAMES + 1) puts("The client likes the third.");
         edit(second >= 5 && second <= 8 ? 30 : 3);
         jenturik_last steps = jenturik_collect_many(TABLE, BUDGET);
-        if (steps.code != JENTURIK_DONE) stop("collect_many", steps.code, steps.node);
+        if (steps.code != JENTURIK_DONE) stop("collect_many", steps.code, steps.detail, steps.node);
         unsigned light = draw(), used = count_in_use(), unused = count_free();
         if (frame % FRAMES == 0)
             printf("second %2d: frame %3d, %3u in use, %3u free, %3u cycles, %4u taken, %3u "

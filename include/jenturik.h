@@ -55,9 +55,14 @@
  * many steps, the steps before the refused one stay done. A number out of range is refused, however
  * large it is. Words that form no valid record are refused with code 2, before anything else is
  * judged. If there are several reasons, the answer has the first in this order: 1, 2, 10, 3, 4, 5
- * or 6; then 7 and 8 on the way to the places; then 9. For jenturik_load it is 1, 11, 12, 13.
+ * or 6; then 7 and 8 on the way to the places; then 7, 9, 14 and 15 as the values are read. For
+ * jenturik_load it is 1, 11, 12, 13.
  *
- * Codes 1, 2 and 7 cannot occur, and no collector step is refused, if jenturik_fresh or
+ * Codes 7, 14 and 15 are damage: the call read an edge or a colour that is bad, or a colour that
+ * no run leaves at this node. The answer has the node, and the detail says which: for an edge its
+ * side, for 15 the reason. jenturik_code_text says it in words.
+ *
+ * Codes 1, 2, 7, 14 and 15 cannot occur, and no collector step is refused, if jenturik_fresh or
  * jenturik_load made the table, only these calls have written to it and to the words since, and
  * every call is given the arrays with their own lengths.
  *
@@ -121,7 +126,8 @@ enum {
     JENTURIK_COUNTED = 10    /* in use, free count: in place of the node the number of nodes */
 };
 
-/* Codes: why a call was refused. */
+/* Codes: why a call was refused. Those that tell a node say so; with the others it is 0. The detail
+ * is 0 but for 7, 11 and 15. */
 enum {
     JENTURIK_DONE = 0,
     JENTURIK_BAD_SIZE = 1,        /* M or R out of range, or a length that is not the record's M */
@@ -130,32 +136,53 @@ enum {
     JENTURIK_BAD_TURNS = 4,       /* more than 12 turns, or a bit set at or above the count */
     JENTURIK_SHADE_IS_OWED = 5,   /* link or take before the last link's shade */
     JENTURIK_NOTHING_IS_OWED = 6, /* shade without a link before it */
-    JENTURIK_DAMAGED = 7,         /* the call met a bad edge or colour; the answer has its node */
+    JENTURIK_BAD_EDGE = 7,        /* the call met a bad edge; the node has it, on the side that the
+                                     detail tells. Bad is an edge that is 1 or not below M; and for
+                                     take, of FREE or of the first free node, one to a slot */
     JENTURIK_SOURCE_IS_NIL = 8,   /* link or take: the source place is NIL, which has no edges */
     JENTURIK_NO_FREE_NODE = 9,    /* take: the free list is empty */
     JENTURIK_UNREADABLE = 10,     /* a side above 1, a kind above 4, an unused word of a step that
                                      is not 0, or a schedule with words left over */
     /* load only; the answer has a node */
-    JENTURIK_BAD_GIVEN_EDGE = 11,  /* an edge that is 1 or not below M, or an edge of NIL that is
-                                      not 0: the lowest node that has one */
-    JENTURIK_BAD_FREE_LIST = 12,   /* the first node on the way from FREE along the left edges
-                                      whose right edge is not 0, or whose left edge leads to a
-                                      slot's node or to a node that was passed */
-    JENTURIK_FREE_NODE_IN_USE = 13 /* the lowest free node that a slot leads to */
+    JENTURIK_BAD_GIVEN_EDGE = 11,   /* an edge that is 1 or not below M, or an edge of NIL that is
+                                       not 0: the lowest node that has one. The detail tells the
+                                       side; left, if both are bad */
+    JENTURIK_BAD_FREE_LIST = 12,    /* the first node on the way from FREE along the left edges
+                                       whose right edge is not 0, or whose left edge leads to a
+                                       slot's node or to a node that was passed */
+    JENTURIK_FREE_NODE_IN_USE = 13, /* the lowest free node that a slot leads to */
+    /* damage; the answer has a node */
+    JENTURIK_BAD_COLOUR = 14,   /* the call met a colour above 2, the node's */
+    JENTURIK_NOT_TO_APPEND = 15 /* the collector, at the end of a cycle, met a node that it should
+                                   not append; the detail tells why */
 };
 
-/* An answer: what was done, the code, the node, and how many colours were changed: 0 to 2, and 0
- * from fresh, load, in use and free count. A refusal's node is 0, but for codes 7, 11, 12 and 13.
- * If nodes were counted, the number stands in place of the node. */
+/* Details. With 7 and 11: the side of the bad edge. With 15: why the node is not to be appended,
+ * the first reason that holds. Else the detail is 0. */
+enum {
+    JENTURIK_LEFT = 0,
+    JENTURIK_RIGHT = 1,
+
+    JENTURIK_GRAY = 0,       /* the node is gray */
+    JENTURIK_WHITE_ROOT = 1, /* it is white, and NIL, FREE or a slot's */
+    JENTURIK_WHITE_LAST = 2  /* it is white, and the last free node */
+};
+
+/* An answer: what was done, the code and its detail, the node, and how many colours were changed: 0
+ * to 2, and 0 from fresh, load, in use and free count. A refusal's node is 0, but for codes 7
+ * and 11 to 15. If nodes were counted, the number stands in place of the node. */
 typedef struct {
-    uint32_t what, code, node, changed;
+    uint32_t what;
+    uint16_t code, detail;
+    uint32_t node, changed;
 } jenturik_told;
 
-/* A schedule's answer: how many steps were done, the refused step's code, or 0, and how many
- * colours the steps changed in all (UINT32_MAX where that does not fit). */
+/* A schedule's answer: how many steps were done, the refused step's code and detail, or 0, and how
+ * many colours the steps changed in all (UINT32_MAX where that does not fit). */
 typedef struct {
     size_t done;
-    uint32_t code, changed;
+    uint16_t code, detail;
+    uint32_t changed;
 } jenturik_done;
 
 /* The answer of many collector steps: how many were done, how many colours they changed in all
@@ -165,7 +192,8 @@ typedef struct {
     size_t done;
     uint32_t changed;
     uint16_t node;
-    uint8_t what, code;
+    uint8_t what;
+    uint8_t code : 5, detail : 3;
 } jenturik_last;
 
 /* A step of a schedule. The kinds are take 0, link 1, shade 2, one collector step 3, look 4. A
@@ -211,8 +239,8 @@ jenturik_told jenturik_look(const uint16_t *left, size_t lefts, const uint16_t *
  * what the collector has done so far or is doing now: colours are not read. Writes nothing, and a
  * panel may ask in each frame: its time grows with M alone. On the stack it keeps arrays of 24 KiB.
  * Refused with 1, 2, and with 7 if a slot, or a node that some slot leads to, has a bad edge, which
- * leads nowhere: the answer has the lowest such node. Bad edges of other nodes, NIL's among them,
- * do not matter. */
+ * leads nowhere: the answer has the lowest such node, and in the detail the side; left, if both are
+ * bad. Bad edges of other nodes, NIL's among them, do not matter. */
 jenturik_told jenturik_in_use(const uint16_t *left, size_t lefts, const uint16_t *right,
                               size_t rights, const uint8_t *colour, size_t colours,
                               const uint32_t words[JENTURIK_WORDS]);
@@ -277,6 +305,44 @@ static inline jenturik_done jenturik_schedule_steps(uint16_t *left, size_t lefts
                                                     const jenturik_step *steps, size_t count) {
     return jenturik_schedule(left, lefts, right, rights, colour, colours, words,
                              (const uint32_t *)steps, JENTURIK_STEP_WORDS * count);
+}
+
+/* What a code and its detail mean, in words that go with the answer's node:
+ *
+ *     printf("node %u: %s\n", told.node, jenturik_code_text(told.code, told.detail));
+ *
+ * "no such code" for a pair that no call answers. */
+static inline const char *jenturik_code_text(unsigned code, unsigned detail) {
+    static const char *const texts[16] = {
+        "done",
+        "the number of nodes or of slots, or the length of an array, is not allowed",
+        "the words are no valid record",
+        "a place names a slot that is not there",
+        "a place has more than 12 turns, or a turn beyond its count",
+        "the last link still lacks its shade",
+        "no shade is owed",
+        "the left edge of the node leads to FREE or out of the table, or from the free list to a "
+        "slot",
+        "the source is NIL, which has no edges",
+        "no node is free",
+        "the step cannot be read",
+        "the left edge given for the node leads to FREE or out of the table, or is NIL's and not 0",
+        "the node is on the free list given, but has a right edge, or leads to a slot or to a node "
+        "already passed",
+        "the node is on the free list given, and a slot leads to it",
+        "the colour of the node is none of white, gray and black",
+        "the node is gray where a cycle ends"};
+    if (code < 16 && detail == 0) return texts[code];
+    if (code == 7 && detail == JENTURIK_RIGHT)
+        return "the right edge of the node leads to FREE or out of the table";
+    if (code == 11 && detail == JENTURIK_RIGHT)
+        return "the right edge given for the node leads to FREE or out of the table, or is NIL's "
+               "and not 0";
+    if (code == 15 && detail == JENTURIK_WHITE_ROOT)
+        return "the node is white where a cycle ends, but is NIL, FREE or a slot's";
+    if (code == 15 && detail == JENTURIK_WHITE_LAST)
+        return "the node is white where a cycle ends, but is the last free node already";
+    return "no such code";
 }
 
 #ifdef __cplusplus

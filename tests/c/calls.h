@@ -38,18 +38,18 @@ static const char *const call_names[CALLS] = {"look",
  * are 0 for a schedule. */
 typedef struct {
     size_t done;
-    uint32_t what, code, node, changed;
+    uint32_t what, code, detail, node, changed;
 } answer;
 
 static fence call_steps;
 
 static inline answer of_told(jenturik_told a) {
-    answer all = {a.code == 0, a.what, a.code, a.node, a.changed};
+    answer all = {a.code == 0, a.what, a.code, a.detail, a.node, a.changed};
     return all;
 }
 
 static inline answer of_last(jenturik_last a) {
-    answer all = {a.done, a.what, a.code, a.node, a.changed};
+    answer all = {a.done, a.what, a.code, a.detail, a.node, a.changed};
     return all;
 }
 
@@ -61,7 +61,7 @@ static inline answer call_schedule(lent *t, size_t numbers) {
     jenturik_done d = jenturik_schedule(LENT(t), steps, numbers);
     if (!fence_kept(&call_steps) || (numbers != 0 && memcmp(steps, words, 4 * numbers) != 0))
         fence_fail("the steps were written");
-    answer all = {d.done, 0, d.code, 0, d.changed};
+    answer all = {d.done, 0, d.code, d.detail, 0, d.changed};
     return all;
 }
 

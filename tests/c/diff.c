@@ -22,7 +22,7 @@ static struct place begun, batch, steps, plain;
 static struct record x;
 static struct table t;
 static uint8_t before[MOST];                           /* the colours before a step */
-static uint64_t codes[11], in_use[11], free_count[11]; /* how often each came */
+static uint64_t codes[16], in_use[16], free_count[16]; /* how often each came */
 static uint64_t seed = 88172645463325252u;
 
 static uint32_t below(uint32_t n) {
@@ -145,7 +145,7 @@ static void lend(struct place *p) {
 static size_t compared(void) { return recoloured(before, t.colour, t.colours); }
 
 static void by_plain(size_t n) {
-    struct answer a = {NAMED, 0, 0};
+    struct answer a = {NAMED, 0, 0, 0};
     int code;
     lend(&plain), plain.done = 0;
     code = plain_check(&t, &x);
@@ -161,7 +161,7 @@ static void by_plain(size_t n) {
 static void by_batch(size_t n) {
     jenturik_last a = library_many(&t, batch.words, n);
     batch.done = a.done, batch.changed = a.changed;
-    batch.answer = (struct answer){a.what, a.code, a.node};
+    batch.answer = (struct answer){a.what, a.code, a.detail, a.node};
 }
 
 /* Whether each step tells the colours that it changed. */
@@ -172,6 +172,7 @@ static int by_steps(size_t n) {
         size_t changed = compared();
         told = told && a.changed == changed;
         code = a.code, steps.done += code == 0, steps.changed += changed;
+        steps.answer = (struct answer){a.what, a.code, a.detail, a.node};
     }
     return told;
 }
@@ -221,15 +222,18 @@ int main(int argc, char **argv) {
             return printf("run %llu: colours changed: M = %u\n", (unsigned long long)k, m), 1;
         by_plain(n);
         if (differ(&batch, &steps) || differ(&batch, &plain) ||
-            memcmp(&batch.answer, &plain.answer, sizeof batch.answer))
+            memcmp(&batch.answer, &plain.answer, sizeof batch.answer) ||
+            (n != 0 && memcmp(&steps.answer, &plain.answer, sizeof steps.answer)))
             return printf("run %llu differs: M = %u, n = %zu\n", (unsigned long long)k, m, n), 1;
         made += batch.done, changed += batch.changed, codes[batch.answer.code]++;
     }
     printf("%llu runs, %llu steps, %llu colours changed, no difference; code 0: %llu, 1: %llu, "
-           "2: %llu, 7: %llu; In use 0: %llu, 7: %llu; Free count 0: %llu, 2: %llu\n",
+           "2: %llu, 7: %llu, 14: %llu, 15: %llu; In use 0: %llu, 7: %llu; Free count 0: %llu, "
+           "2: %llu\n",
            (unsigned long long)runs, (unsigned long long)made, (unsigned long long)changed,
            (unsigned long long)codes[0], (unsigned long long)codes[1], (unsigned long long)codes[2],
-           (unsigned long long)codes[7], (unsigned long long)in_use[0],
+           (unsigned long long)codes[7], (unsigned long long)codes[14],
+           (unsigned long long)codes[15], (unsigned long long)in_use[0],
            (unsigned long long)in_use[7], (unsigned long long)free_count[0],
            (unsigned long long)free_count[2]);
     return 0;

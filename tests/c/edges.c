@@ -142,11 +142,13 @@ static void lend_bad(int high) {
     lend(&t, &bad, high);
 }
 
-/* A start refused: the code and the node, the arrays stay, the words are the record of no nodes. */
-static void start_refused(jenturik_told a, uint32_t code, uint32_t node, const char *why,
-                          const char *name, long n) {
+/* A start refused: the code, the node and the detail, the arrays stay, the words are the record of
+ * no nodes. */
+static void start_refused(jenturik_told a, uint32_t code, uint32_t node, uint32_t detail,
+                          const char *why, const char *name, long n) {
     take_back(&t, &after);
-    check(a.code == code && a.what == 0 && a.node == node && a.changed == 0, why, name, n);
+    check(a.code == code && a.what == 0 && a.node == node && a.detail == detail && a.changed == 0,
+          why, name, n);
     memset(bad.words, 0, sizeof bad.words);
     check(same(&bad, &after), "a refused start leaves the arrays, and the words are all 0", name,
           n);
@@ -155,7 +157,7 @@ static void start_refused(jenturik_told a, uint32_t code, uint32_t node, const c
 static void fresh_refuses(uint32_t nodes, uint32_t slots) {
     for (int high = 0; high < 2; high++) {
         lend_bad(high);
-        start_refused(jenturik_fresh(LENT(&t), nodes, slots), 1, 0, "fresh refuses", "fresh",
+        start_refused(jenturik_fresh(LENT(&t), nodes, slots), 1, 0, 0, "fresh refuses", "fresh",
                       (long)nodes);
     }
 }
@@ -189,12 +191,17 @@ static void list(const table *s) {
     for (size_t i = 0; i < s->rights; i++) edges.right[i] = s->right[i];
 }
 
-static void load_refuses(uint32_t nodes, uint32_t slots, uint32_t code, uint32_t node,
-                         const char *why, long n) {
+static void load_refuses_by(uint32_t nodes, uint32_t slots, uint32_t code, uint32_t node,
+                            uint32_t detail, const char *why, long n) {
     for (int high = 0; high < 2; high++) {
         lend_bad(high);
-        start_refused(load(&t, &edges, nodes, slots, high), code, node, why, "load", n);
+        start_refused(load(&t, &edges, nodes, slots, high), code, node, detail, why, "load", n);
     }
+}
+
+static void load_refuses(uint32_t nodes, uint32_t slots, uint32_t code, uint32_t node,
+                         const char *why, long n) {
+    load_refuses_by(nodes, slots, code, node, 0, why, n);
 }
 
 /* Accepted: the table is the lists', all white, and its record has this last, this free count and
@@ -250,10 +257,11 @@ static void set_edge(uint32_t node, int side, uint32_t edge) {
     (side == 0 ? edges.left : edges.right)[node] = edge;
 }
 
-/* One edge of a fresh table's lists is changed; refused with this code and node. */
+/* One edge of a fresh table's lists is changed; refused with this code and node, and 11 with the
+ * side. */
 static void load_edge(uint32_t node, int side, uint32_t edge, uint32_t code, uint32_t told) {
     list(&other), set_edge(node, side, edge);
-    load_refuses(M, R, code, told, "an edge", (long)edge);
+    load_refuses_by(M, R, code, told, code == 11 ? (uint32_t)side : 0, "an edge", (long)edge);
 }
 
 /* Bad edges, among them such as are good in their lower 16 bits: 11 and the lowest node. */
@@ -265,7 +273,8 @@ static void load_bad_edges(void) {
                 load_edge(M - 1, side, wrong[i], 11, M - 1);
     load_edge(0, 0, 2, 11, 0), load_edge(0, 1, M - 1, 11, 0);
     list(&other), set_edge(7, 0, 1), set_edge(5, 1, M), set_edge(1, 1, 4), set_edge(2, 0, 6);
-    load_refuses(M, R, 11, 5, "the lowest, and before 12 and 13", 5);
+    load_refuses_by(M, R, 11, 5, 1, "the lowest, and before 12 and 13", 5);
+    set_edge(5, 0, 1), load_refuses(M, R, 11, 5, "left before right", 5);
 }
 
 /* The free list, FREE to 4 to 5 .. to 8, broken: 12 and the first node at which it is. */
@@ -312,17 +321,21 @@ static void load_edges(void) {
     load_accepted();
 }
 
-/* In use of the bad table: the code and the number or node; everything stays. */
-static void tells(uint32_t code, uint32_t number, const char *why, long n) {
+/* In use of the bad table: the code, the number or node, and the side; everything stays. */
+static void tells_side(uint32_t code, uint32_t number, uint32_t side, const char *why, long n) {
     for (int high = 0; high < 2; high++) {
         lend(&t, &bad, high);
         jenturik_told a = ask(&t);
         take_back(&t, &after);
-        check(a.code == code && a.node == number && a.changed == 0 &&
+        check(a.code == code && a.node == number && a.detail == side && a.changed == 0 &&
                   a.what == (code == 0 ? JENTURIK_COUNTED : JENTURIK_REFUSED),
               why, "in_use", n);
         check(same(&bad, &after), "nothing is changed", "in_use", n);
     }
+}
+
+static void tells(uint32_t code, uint32_t number, const char *why, long n) {
+    tells_side(code, number, 0, why, n);
 }
 
 /* Sound tables of 9 nodes and 2 slots: 2 and 3 are the slots' nodes, from 4 on all are free. */
@@ -370,7 +383,7 @@ static void in_use_refuses(void) {
             for (int j = 0; j < 5; j++) {
                 if (judged[j] == 2 && side == 1) continue; /* the way to 4, 7 and 8 */
                 make_in_use(), in_use_edge(judged[j], side, wrong[i]);
-                tells(7, judged[j], "a bad edge", (long)wrong[i]);
+                tells_side(7, judged[j], (uint32_t)side, "a bad edge", (long)wrong[i]);
             }
             for (int j = 0; j < 4; j++) {
                 make_in_use(), in_use_edge(passed_by[j], side, wrong[i]);
@@ -378,12 +391,12 @@ static void in_use_refuses(void) {
             }
         }
     make_in_use(), in_use_edge(8, 0, 1), in_use_edge(7, 1, M), in_use_edge(6, 0, 1);
-    tells(7, 7, "the lowest", 7);
+    tells_side(7, 7, 1, "the lowest", 7);
     in_use_edge(4, 0, 65535), tells(7, 4, "the lowest", 4);
-    in_use_edge(4, 0, 7), in_use_edge(4, 1, M), tells(7, 4, "the lowest", 4);
+    in_use_edge(4, 0, 7), in_use_edge(4, 1, M), tells_side(7, 4, 1, "the lowest", 4);
     make_in_use(), bad.right[2] = 8, bad.left[8] = 4, in_use_edge(8, 1, 1), in_use_edge(4, 0, 1);
     tells(7, 4, "past a bad edge along the good one", 4);
-    bad.left[8] = 0, tells(7, 8, "none behind a bad edge", 8);
+    bad.left[8] = 0, tells_side(7, 8, 1, "none behind a bad edge", 8);
     bad.words[JENTURIK_LAST] = 0, tells(2, 0, "2 comes before 7", 2);
     bad.colours--, tells(1, 0, "1 comes before 2", 1);
 }
@@ -393,7 +406,7 @@ static void in_use_free(void) {
     bad = other, bad.left[2] = 5, tells(0, 4, "free nodes that a slot leads to", 4);
     bad.left[3] = 4, tells(0, 5, "all of them", 5);
     make_fresh(&bad, 4096, 64), bad.right[65] = 66, bad.right[4095] = 4096;
-    tells(7, 4095, "the last of 4096 nodes", 4095);
+    tells_side(7, 4095, 1, "the last of 4096 nodes", 4095);
     bad.right[4095] = 0, bad.left[2] = 1, tells(7, 2, "a slot of 4096 nodes", 2);
 }
 

@@ -185,7 +185,7 @@ static void take_at_none(void) {
 static void take_refused(void) {
     lend_chain(8, 5, 3, 5), takes(7, 1, "FREE's edge"), left(8, 5, "7 changes nothing", "take");
     lend_chain(8, 5, 4, 2), takes(7, 4, "the first's"), left(8, 5, "7 changes nothing", "take");
-    lend_chain(8, 5, 4, 5), t.c[5] = 3, takes(7, 5, "a colour");
+    lend_chain(8, 5, 4, 5), t.c[5] = 3, takes(14, 5, "a colour");
     left(8, 5, "7 changes nothing", "take");
     lend_chain(8, 5, 4, 5);
     check(jenturik_take(LENT(&t), 0, 1, 0, 0).code == 8, "the source is NIL", "take", 8);
@@ -222,8 +222,8 @@ static void append_counts(void) {
     lend_append(8, 4, 2, 8), appends(JENTURIK_WHITENED, 8, "the last node, black"),
         left(4, 2, "the last node, black", "collect");
     lend_append(4, 8, 3, 8), t.c[4] = 1;
-    check(jenturik_collect(LENT(&t)).code == 7, "a gray node", "collect", 7);
-    left(8, 3, "7 changes nothing", "collect");
+    check(jenturik_collect(LENT(&t)).code == 15, "a gray node", "collect", 15);
+    left(8, 3, "15 changes nothing", "collect");
 }
 
 /* One more than can be free: done, and then the pair is bad. */

@@ -3,7 +3,13 @@
 #include <string.h>
 
 static struct answer say(uint16_t kind, uint16_t code, uint16_t node) {
-    struct answer a = {kind, code, node};
+    struct answer a = {kind, code, 0, node};
+    return a;
+}
+
+/* A refusal whose code has a detail. */
+static struct answer refuse(uint16_t code, uint16_t node, uint16_t detail) {
+    struct answer a = {REFUSED, code, detail, node};
     return a;
 }
 
@@ -28,7 +34,7 @@ int plain_check(const struct table *t, const struct record *x) {
 
 static inline struct answer shade(const struct table *t, struct record *x, uint16_t n,
                                   uint16_t phase) {
-    if (t->colour[n] > 2) return say(REFUSED, 7, n);
+    if (t->colour[n] > 2) return say(REFUSED, 14, n);
     if (t->colour[n] == 0) t->colour[n] = 1;
     x->steps++;
     x->phase = phase;
@@ -46,7 +52,7 @@ static inline struct answer shade_root(const struct table *t, struct record *x) 
 
 static inline struct answer shade_edge(const struct table *t, struct record *x, uint16_t e,
                                        uint16_t phase) {
-    if (e >= x->m || e == 1) return say(REFUSED, 7, x->i);
+    if (e >= x->m || e == 1) return refuse(7, x->i, x->phase == RIGHT);
     return shade(t, x, e, phase);
 }
 
@@ -54,7 +60,7 @@ static inline uint16_t next(const struct record *x) { return x->i + 1 == x->m ? 
 
 static inline struct answer look(const struct table *t, struct record *x) {
     uint16_t i = x->i;
-    if (t->colour[i] > 2) return say(REFUSED, 7, i);
+    if (t->colour[i] > 2) return say(REFUSED, 14, i);
     x->steps++;
     if (t->colour[i] == 1) {
         x->phase = LEFT;
@@ -101,7 +107,10 @@ static inline struct answer append(const struct table *t, struct record *x) {
         after_append(x);
         return say(WHITENED, 0, i);
     }
-    if (t->colour[i] != 0 || i <= x->r + 1 || i == x->last) return say(REFUSED, 7, i);
+    if (t->colour[i] > 2) return say(REFUSED, 14, i);
+    if (t->colour[i] == 1) return refuse(15, i, 0);
+    if (i <= x->r + 1) return refuse(15, i, 1);
+    if (i == x->last) return refuse(15, i, 2);
     t->left[i] = 0;
     t->right[i] = 0;
     t->left[x->last] = i;
@@ -170,12 +179,12 @@ enum { NODES = 4096 };
 
 static int bad_edge(uint32_t e, uint32_t m) { return e >= m || e == 1; }
 
-/* Code 11: the lowest node with a bad edge, m where there is none. */
-static uint32_t first_bad(const uint32_t *lefts, const uint32_t *rights, uint32_t m) {
-    if (lefts[0] != 0 || rights[0] != 0) return 0;
+/* Code 11: the lowest node with a bad edge and the side, left before right. */
+static struct answer first_bad(const uint32_t *lefts, const uint32_t *rights, uint32_t m) {
+    if (lefts[0] != 0 || rights[0] != 0) return refuse(11, 0, lefts[0] == 0);
     uint32_t n = 1;
     while (n < m && !bad_edge(lefts[n], m) && !bad_edge(rights[n], m)) n++;
-    return n;
+    return n < m ? refuse(11, n, !bad_edge(lefts[n], m)) : say(STARTED, 0, 0);
 }
 
 /* Code 12: walks the free list, notes its nodes and counts them. */
@@ -216,14 +225,14 @@ static uint32_t first_shared(const uint8_t *is_free, const uint8_t *reached, uin
 static struct answer judge(const uint32_t *lefts, const uint32_t *rights, uint32_t m, uint32_t r,
                            uint16_t *count) {
     uint8_t is_free[NODES], reached[NODES];
-    uint32_t n = first_bad(lefts, rights, m);
-    if (n < m) return say(REFUSED, 11, n);
+    struct answer a = first_bad(lefts, rights, m);
+    if (a.code) return a;
     memset(is_free, 0, m);
-    struct answer a = walk(lefts, rights, r, is_free, count);
+    a = walk(lefts, rights, r, is_free, count);
     if (a.code) return a;
     memset(reached, 0, m);
     mark(lefts, rights, r, reached);
-    n = first_shared(is_free, reached, m);
+    uint32_t n = first_shared(is_free, reached, m);
     return n < m ? say(REFUSED, 13, n) : a;
 }
 
@@ -283,7 +292,7 @@ static struct answer count(const uint16_t *left, const uint16_t *right, uint32_t
             reached[g] = 1, queue[tail++] = g;
         }
     }
-    return hurt < m ? say(REFUSED, 7, hurt) : say(COUNTED, 0, tail - r);
+    return hurt < m ? refuse(7, hurt, !bad_edge(left[hurt], m)) : say(COUNTED, 0, tail - r);
 }
 
 /* The record of the words, and codes 1 and 2; words that form no record are code 2. */

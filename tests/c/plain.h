@@ -29,7 +29,7 @@ struct record {
 };
 
 struct answer {
-    uint16_t kind, code, node;
+    uint16_t kind, code, detail, node;
 };
 
 struct table {

@@ -24,7 +24,7 @@ static inline int refuses(int which, uint32_t code) {
         answer a = call(&t, which);
         take_back(&t, &after);
         good = good && a.code == code && a.what == 0 && a.node == 0 && a.done == 0 &&
-               a.changed == 0 && same(&bad, &after);
+               a.detail == 0 && a.changed == 0 && same(&bad, &after);
     }
     return good;
 }

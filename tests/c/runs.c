@@ -9,9 +9,11 @@
 static table start, many, single;
 
 /* Each answer is of 16 bytes: two registers. Where its fields stand is the library's choice too. */
-_Static_assert(sizeof(jenturik_told) == 16 && offsetof(jenturik_told, changed) == 12,
+_Static_assert(sizeof(jenturik_told) == 16 && offsetof(jenturik_told, code) == 4 &&
+                   offsetof(jenturik_told, detail) == 6 && offsetof(jenturik_told, changed) == 12,
                "jenturik_told");
-_Static_assert(sizeof(jenturik_done) == 16 && offsetof(jenturik_done, changed) == 12,
+_Static_assert(sizeof(jenturik_done) == 16 && offsetof(jenturik_done, code) == 8 &&
+                   offsetof(jenturik_done, detail) == 10 && offsetof(jenturik_done, changed) == 12,
                "jenturik_done");
 _Static_assert(sizeof(jenturik_last) == 16 && offsetof(jenturik_last, changed) == 8 &&
                    offsetof(jenturik_last, node) == 12,
@@ -37,7 +39,7 @@ static uint32_t compared(uint32_t changed) {
 /* n single collector steps, or as many as are done before one is refused, and the answer that
  * jenturik_collect_many owes: with the sum of the colours that each of them changed. */
 static answer one_by_one(size_t n) {
-    answer a = {0, JENTURIK_NAMED, 0, 0, 0};
+    answer a = {0, JENTURIK_NAMED, 0, 0, 0, 0};
     if (n == 0) {
         a.code = jenturik_schedule(LENT(&t), NULL, 0).code;
         if (a.code != 0) a.what = JENTURIK_REFUSED;
@@ -46,6 +48,7 @@ static answer one_by_one(size_t n) {
         jenturik_told told = jenturik_collect(LENT(&t));
         done += told.code == 0;
         a.done = done, a.what = told.what, a.code = told.code, a.node = told.node;
+        a.detail = told.detail;
         a.changed += compared(told.changed);
     }
     return a;
@@ -58,8 +61,8 @@ static int alike(size_t n, int high) {
     lend(&t, &start, high);
     jenturik_last b = jenturik_collect_many(LENT(&t), n);
     take_back(&t, &many);
-    return a.done == b.done && a.what == b.what && a.code == b.code && a.node == b.node &&
-           a.changed == b.changed && same(&single, &many);
+    return a.done == b.done && a.what == b.what && a.code == b.code && a.detail == b.detail &&
+           a.node == b.node && a.changed == b.changed && same(&single, &many);
 }
 
 /* A bad edge or colour, a gray node, or an invented number in the record. */
@@ -108,15 +111,15 @@ static void many_against_single(int damaged, uint32_t tables) {
 /* The steps by their own calls, until one is refused; a kind above 4 has none and is refused
  * with 10. The colours changed are the sum over the calls. */
 static jenturik_done by_own_calls(const uint32_t *steps, size_t count) {
-    static const jenturik_told unreadable = {0, JENTURIK_UNREADABLE, 0, 0};
-    jenturik_done d = {0, jenturik_schedule(LENT(&t), NULL, 0).code, 0};
+    static const jenturik_told unreadable = {0, JENTURIK_UNREADABLE, 0, 0, 0};
+    jenturik_done d = {0, jenturik_schedule(LENT(&t), NULL, 0).code, 0, 0};
     while (d.code == 0 && d.done < count) {
         const uint32_t *s = steps + JENTURIK_STEP_WORDS * d.done;
         d.code = jenturik_schedule(LENT(&t), NULL, 0).code;
         if (d.code != 0) break;
         jenturik_told a = s[0] > 4 ? unreadable : own_call(&t, s);
         d.changed += compared(a.changed);
-        d.code = a.code;
+        d.code = a.code, d.detail = a.detail;
         d.done += d.code == 0;
     }
     return d;
@@ -150,8 +153,8 @@ static void schedules_against_single(uint32_t tables) {
         lend(&t, &start, 1);
         jenturik_done b = jenturik_schedule(LENT(&t), steps, JENTURIK_STEP_WORDS * count);
         take_back(&t, &after);
-        wrong += a.done != b.done || a.code != b.code || a.changed != b.changed ||
-                 !same(&single, &after);
+        wrong += a.done != b.done || a.code != b.code || a.detail != b.detail ||
+                 a.changed != b.changed || !same(&single, &after);
         done += b.done;
     }
     check(wrong == 0, "a schedule does what single steps do", "schedule", (long)wrong);
@@ -172,9 +175,10 @@ static void large_table(void) {
           (long)t.w[JENTURIK_CYCLES]);
 }
 
-/* Whether an answer is this one; a refusal changes no colour. */
+/* Whether an answer is this one; its detail is 0, and a refusal changes no colour. */
 static int told(jenturik_told a, uint32_t what, uint32_t code, uint32_t node) {
-    return a.what == what && a.code == code && a.node == node && (code == 0 || a.changed == 0);
+    return a.what == what && a.code == code && a.detail == 0 && a.node == node &&
+           (code == 0 || a.changed == 0);
 }
 
 /* Whether a done call changed so many colours, told and by comparing. */
@@ -217,7 +221,7 @@ static void every_code(void) {
           "a shade is owed", "take", 5);
     check(told(jenturik_shade(LENT(&t)), JENTURIK_SHADED, 0, 4), "the shade owed", "shade", 4);
     t.l[4] = 1;
-    check(told(jenturik_look(LENT(&t), 0, 2, 0), 0, JENTURIK_DAMAGED, 4), "node 4's edge is bad",
+    check(told(jenturik_look(LENT(&t), 0, 2, 0), 0, JENTURIK_BAD_EDGE, 4), "node 4's edge is bad",
           "look", 7);
 }
 
@@ -330,7 +334,7 @@ static void colours_of_steps(void) {
     lend_coloured(4, 0, 5);
     check(changed(jenturik_collect(LENT(&t)), 0), "appends a node", "collect", 0);
     lend_coloured(4, 1, 5);
-    check(told(jenturik_collect(LENT(&t)), 0, JENTURIK_DAMAGED, 4), "refuses a gray node",
+    check(told(jenturik_collect(LENT(&t)), 0, JENTURIK_NOT_TO_APPEND, 4), "refuses a gray node",
           "collect", 1);
 }
 

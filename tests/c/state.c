@@ -123,8 +123,8 @@ static void by_many(jenturik_told told) {
     lend(&t, &given, high);
     jenturik_last a = jenturik_collect_many(LENT(&t), 1);
     take_back(&t, &again);
-    if (a.what != told.what || a.code != told.code || a.node != told.node ||
-        a.changed != told.changed || a.done != (told.code == 0))
+    if (a.what != told.what || a.code != told.code || a.detail != told.detail ||
+        a.node != told.node || a.changed != told.changed || a.done != (told.code == 0))
         fence_fail("collect_many tells another answer");
     if (!same(&after, &again)) fence_fail("collect_many leaves another state");
 }
@@ -135,20 +135,21 @@ static void state_line(void) {
     lend(&t, &given, high);
     jenturik_done d = follow(steps, 1);
     take_back(&t, &after);
-    jenturik_told told = {0, d.code, 0, d.changed};
+    jenturik_told told = {0, d.code, d.detail, 0, d.changed};
     if (steps[0] <= 4) {
         lend(&t, &given, high);
         told = own_call(&t, steps);
         take_back(&t, &again);
         if (!same(&after, &again)) fence_fail("the call and the schedule leave different states");
     }
-    if (told.code != d.code || d.done != (d.code == 0))
+    if (told.code != d.code || told.detail != d.detail || d.done != (d.code == 0))
         fence_fail("the call and the schedule tell different codes");
     if (told.changed != d.changed || d.changed != changes(&given, &after))
         fence_fail("another number of colours changed than is told");
     if (steps[0] == 3) by_many(told);
     put(told.code);
     put(told.node);
+    put(told.detail);
     put(told.changed);
     put(did(steps[0], told));
     put_state(&after);
@@ -167,6 +168,7 @@ static void put_run(jenturik_done d) {
     take_back(&t, &after);
     put(d.done);
     put(d.code);
+    put(d.detail);
     put(d.changed);
     put_state(&after);
 }
@@ -190,11 +192,13 @@ static void many_line(void) {
         size_t n = span(all.done, count);
         if (n == 0) {
             jenturik_done d = follow(steps + JENTURIK_STEP_WORDS * all.done, 1);
-            all.done += d.done, all.code = d.code, all.changed += d.changed;
+            all.done += d.done, all.code = d.code, all.detail = d.detail;
+            all.changed += d.changed;
         } else {
             jenturik_last a = jenturik_collect_many(LENT(&t), n);
             if ((a.done == n) != (a.code == 0)) fence_fail("collect_many stops without a code");
-            all.done += a.done, all.code = a.code, all.changed += a.changed;
+            all.done += a.done, all.code = a.code, all.detail = a.detail;
+            all.changed += a.changed;
         }
     }
     put_run(all);
@@ -223,6 +227,7 @@ static void fresh_line(void) {
     take_start(a);
     if (a.code != 0 && a.node != 0) fence_fail("a refused fresh has a node");
     put(a.code);
+    put(a.detail);
     put_state(&after);
 }
 
@@ -236,6 +241,7 @@ static void load_line(void) {
     if (!fence_kept(&list_left) || !fence_kept(&list_right)) fence_fail("a list was written");
     put(a.code);
     put(a.node);
+    put(a.detail);
     put_state(&after);
 }
 
@@ -251,6 +257,7 @@ static void count_line(jenturik_told (*count)(const lent *)) {
     if (a.changed != 0) fence_fail("a call that counts tells colours that it changed");
     put(a.code);
     put(a.node);
+    put(a.detail);
 }
 
 static void in_use_line(void) { count_line(ask); }

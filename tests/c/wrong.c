@@ -55,6 +55,25 @@ static jenturik_told count_wrongly(jenturik_told a) {
     return a;
 }
 
+/* The damage as a step tells it: for a walk, for the free list and for the collector. */
+static jenturik_told tell_wrongly(jenturik_told a) {
+    if (wrong(110) && a.code == 7) a.detail = 1 - a.detail; /* the other side */
+    if (wrong(111)) a.detail = 0;                           /* none */
+    if (wrong(112) && a.code == 14) a.code = 7;             /* a colour told as an edge */
+    if (wrong(113) && a.code == 14) a.node = 0;             /* a colour without its node */
+    if (wrong(114) && a.code == 14) a.detail = 1;           /* a colour has a side */
+    if (wrong(115) && a.code == 15) a.code = 7;             /* what Append meets told as an edge */
+    if (wrong(116) && a.code == 15) a.code = 14;            /* or as a colour */
+    if (wrong(117) && a.code == 15) a.node = 0;             /* without its node */
+    if (wrong(118) && a.code == 15) a.detail = (uint16_t)((a.detail + 1) % 3); /* turned round */
+    if (wrong(119) && a.code == 15 && a.detail > 0) a.detail = 3 - a.detail;   /* root for last */
+    if (wrong(120) && a.code == 15 && a.detail < 2) a.detail = 1 - a.detail;   /* gray for root */
+    if (wrong(121) && a.code == 15 && a.detail > 1) a.detail = 1; /* any white is a root */
+    if (wrong(122) && a.code == 0) a.detail = 1;                  /* what is done has one */
+    if (wrong(123) && a.code != 0 && a.code < 7) a.detail = 1;    /* a bad call has one */
+    return a;
+}
+
 /* The most nodes that can be free. */
 static uint32_t most_free(const uint32_t *words) {
     return words[JENTURIK_NODES] - words[JENTURIK_SLOTS] - 2;
@@ -115,6 +134,11 @@ jenturik_told __wrap_jenturik_load(ARRAYS, uint32_t *words, LISTS, uint32_t node
         words[JENTURIK_FREE_COUNT] = most_free(words);
     if (wrong(83) && a.code == 0 && a.node != 1) words[JENTURIK_FREE_COUNT]++; /* and FREE */
     if (wrong(84) && a.code > 1) words[JENTURIK_FREE_COUNT] = 1;               /* though refused */
+    if (wrong(124) && a.code == 11) a.detail = 1 - a.detail;                   /* the other side */
+    if (wrong(125)) a.detail = 0;                                              /* no side */
+    if (wrong(126) && a.code == 11 && given_right[a.node] != 0)                /* right first */
+        a.detail = given_right[a.node] == 1 || given_right[a.node] >= nodes || a.node == 0;
+    if (wrong(127) && a.code > 11) a.detail = 1; /* the chain has a side */
     return a;
 }
 
@@ -123,7 +147,7 @@ jenturik_told __wrap_jenturik_look(READ_ARRAYS, const uint32_t *words, PLACE) {
         ((volatile uint8_t *)(uintptr_t)colour)[0] =
             colour[0]; /* writes, though it changes nothing */
     words = overlooked(words);
-    return count_wrongly(__real_jenturik_look(TABLE, slot, count, word));
+    return count_wrongly(tell_wrongly(__real_jenturik_look(TABLE, slot, count, word)));
 }
 
 /* What In use is asked of, and which nodes were met. */
@@ -164,13 +188,14 @@ static int refused(const asked *q, uint32_t n, const uint8_t *colour) {
 
 /* In use where codes 1 and 2 are passed; where nothing is wrong, what the true one answers. */
 static jenturik_told count_in_use(asked *q, const uint8_t *colour) {
-    jenturik_told a = {JENTURIK_COUNTED, 0, 0, 0},
-                  damaged = {JENTURIK_REFUSED, JENTURIK_DAMAGED, 0, 0};
+    jenturik_told a = {JENTURIK_COUNTED, 0, 0, 0, 0},
+                  damaged = {JENTURIK_REFUSED, JENTURIK_BAD_EDGE, 0, 0, 0};
     memset(q->met, 0, sizeof q->met);
     for (uint32_t n = 2; n < q->r + 2; n++) meet(q, n);
     for (uint32_t n = 0; n < q->m; n++)
         if (refused(q, n, colour) && (wrong(37) || a.code == 0)) /* not the lowest */
-            damaged.node = n, a.code = JENTURIK_DAMAGED;
+            damaged.node = n, a.code = JENTURIK_BAD_EDGE;
+    damaged.detail = !bad_edge(q, q->left[damaged.node]);
     if (a.code != 0 && !wrong(38)) return damaged; /* counts what a damaged table has */
     for (uint32_t n = q->r + 2; n < q->m; n++) a.node += q->met[n];
     a.code = 0;
@@ -193,9 +218,12 @@ jenturik_told __wrap_jenturik_in_use(READ_ARRAYS, const uint32_t *words) {
     if (a.code == 0 || a.code == 7) a = count_in_use(&q, colour);
     if (wrong(43)) /* writes, though it changes nothing */
         ((volatile uint32_t *)(uintptr_t)words)[JENTURIK_WORDS - 1] = words[JENTURIK_WORDS - 1];
-    if (wrong(44) && a.code == 7) a.node = 0;              /* a refusal's node is lost */
-    if (wrong(45) && a.code == 0) a.what = JENTURIK_NAMED; /* tells another deed */
-    if (wrong(55) && a.code == 0) a.changed = a.node;      /* the number told twice */
+    if (wrong(44) && a.code == 7) a.node = 0;               /* a refusal's node is lost */
+    if (wrong(45) && a.code == 0) a.what = JENTURIK_NAMED;  /* tells another deed */
+    if (wrong(55) && a.code == 0) a.changed = a.node;       /* the number told twice */
+    if (wrong(128) && a.code == 7) a.detail = 1 - a.detail; /* the other side */
+    if (wrong(129)) a.detail = 0;                           /* no side */
+    if (wrong(130) && a.code == 7) a.detail = bad_edge(&q, right[a.node]); /* right first */
     return a;
 }
 
@@ -222,6 +250,7 @@ jenturik_told __wrap_jenturik_free_count(READ_ARRAYS, const uint32_t *words) {
     if (wrong(92) && a.code == 0 && left[1] == 1) a.what = 0, a.code = 7; /* judges FREE's edge */
     if (wrong(93)) /* writes, though it changes nothing */
         ((volatile uint32_t *)(uintptr_t)words)[JENTURIK_FREE_COUNT] = words[JENTURIK_FREE_COUNT];
+    if (wrong(131)) a.detail = 1; /* has a detail */
     if (wrong(94) && a.code == 0) /* all that are not in use */
         a.node = most_free(words) - __real_jenturik_in_use(TABLE).node;
     return a;
@@ -236,7 +265,7 @@ jenturik_told __wrap_jenturik_link(EDGES_ARRAYS, uint32_t *words, PLACE, uint32_
     if (wrong(5) && a.code == 0 && a.node == 0)
         words[JENTURIK_OWES] = 0; /* NIL owed taken for nothing owed */
     if (wrong(56) && a.code == 0) a.changed = colour[a.node] == 0; /* the shade owed counts */
-    return count_wrongly(a);
+    return count_wrongly(tell_wrongly(a));
 }
 
 jenturik_told __wrap_jenturik_shade(COLOUR_ARRAYS, uint32_t *words) {
@@ -245,7 +274,7 @@ jenturik_told __wrap_jenturik_shade(COLOUR_ARRAYS, uint32_t *words) {
     if (wrong(7) && a.code == 0) colour[a.node] = 2; /* black instead of gray */
     if (wrong(57) && a.code == 0) a.changed = 1;     /* shading a gray or black node counts */
     if (wrong(58) && a.node == 0) a.changed = 0;     /* NIL does not count */
-    return count_wrongly(a);
+    return count_wrongly(tell_wrongly(a));
 }
 
 jenturik_told __wrap_jenturik_take(ARRAYS, uint32_t *words, PLACE, uint32_t side) {
@@ -261,10 +290,14 @@ jenturik_told __wrap_jenturik_take(ARRAYS, uint32_t *words, PLACE, uint32_t side
         *free_count = 1;                                             /* goes by last, too */
     if (wrong(102) && a.code == 9 && had > 0) *free_count = had - 1; /* counts, though refused */
     if (wrong(8) && a.code == 0)
-        words[JENTURIK_LAST] = last;             /* last stays when the list runs out */
-    if (wrong(9) && a.code == 7) a.node = 0;     /* a refusal's node is lost */
+        words[JENTURIK_LAST] = last;                     /* last stays when the list runs out */
+    if (wrong(9) && a.code == 7) a.node = 0;             /* a refusal's node is lost */
+    if (wrong(132) && a.code == 7) a.detail = side != 0; /* the side on which it would write */
+    if (wrong(133) && a.code == 14 && a.node == left[1]) a.code = 7; /* f's colour as its edge */
+    if (wrong(134) && a.code == 14 && a.node != left[1]) a.node = left[1]; /* f for g */
+    if (wrong(135) && a.code == 7 && a.node == left[1] && colour[a.node] > 2) a.code = 14;
     if (wrong(59) && a.code == 0) a.changed = 2; /* always two */
-    return count_wrongly(a);
+    return count_wrongly(tell_wrongly(a));
 }
 
 jenturik_told __wrap_jenturik_collect(ARRAYS, uint32_t *words) {
@@ -282,7 +315,7 @@ jenturik_told __wrap_jenturik_collect(ARRAYS, uint32_t *words) {
         words[JENTURIK_FREE_COUNT] = most_free(words); /* stays at the limit */
     if (wrong(106) && a.what == JENTURIK_APPENDED && words[JENTURIK_PHASE] == 0)
         words[JENTURIK_FREE_COUNT] = 1; /* a complete cycle counts anew */
-    return count_wrongly(a);
+    return count_wrongly(tell_wrongly(a));
 }
 
 /* The last step by itself; tells the colours that it changed. */
@@ -315,6 +348,11 @@ jenturik_last __wrap_jenturik_collect_many(ARRAYS, uint32_t *words, size_t n) {
         TABLE, wrong(12) && n > 500 ? n - 1 : n); /* one step too few of many */
     if (wrong(12) && n > 500 && a.code == 0) a.done++;
     if (wrong(13) && a.code != 0 && a.done > 0) a.code = 0;         /* a refusal is not told */
+    if (wrong(136)) a.detail = 0;                                   /* the detail is lost */
+    if (wrong(137) && a.done > 0) a.detail = 0;                     /* after the first step */
+    if (wrong(138) && a.code == 14) a.code = 7;                     /* a colour told as an edge */
+    if (wrong(139) && a.code == 15) a.detail &= 1;                  /* one bit of it */
+    if (wrong(140) && a.code == 0) a.detail = 1;                    /* what is done has one */
     if (wrong(64)) a.changed = (uint32_t)a.done;                    /* the steps are told */
     if (wrong(65)) a.changed = recoloured(before, colour, colours); /* once, if at all */
     if (wrong(66) && a.code != 0) a.changed = 0; /* nothing where one step is refused */
@@ -339,7 +377,7 @@ static jenturik_done the_last_done(ARRAYS, uint32_t *words, const uint32_t *step
     while (all.code == 0 && all.done < numbers / JENTURIK_STEP_WORDS) {
         jenturik_done d = __real_jenturik_schedule(TABLE, steps + JENTURIK_STEP_WORDS * all.done,
                                                    JENTURIK_STEP_WORDS);
-        all.done += d.done, all.code = d.code, all.changed = d.changed;
+        all.done += d.done, all.code = d.code, all.detail = d.detail, all.changed = d.changed;
     }
     return all;
 }
@@ -352,6 +390,11 @@ jenturik_done __wrap_jenturik_schedule(ARRAYS, uint32_t *words, const uint32_t *
     if (wrong(70)) return the_last_done(TABLE, steps, numbers); /* the last step's colours alone */
     jenturik_done d = __real_jenturik_schedule(TABLE, steps, numbers);
     if (wrong(15) && d.code == 10 && d.done > 0) d.code = 0; /* a kind above 4 ends it quietly */
+    if (wrong(141)) d.detail = 0;                            /* the detail is lost */
+    if (wrong(142) && d.done > 0) d.detail = 0;              /* after the first step */
+    if (wrong(143) && d.code == 7) d.detail = 1 - d.detail;  /* the other side */
+    if (wrong(144) && d.code == 14) d.code = 7;              /* a colour told as an edge */
+    if (wrong(145) && d.code == 15) d.detail &= 1;           /* one bit of it */
     if (wrong(71)) d.changed = (uint32_t)d.done;             /* the steps are told */
     if (wrong(72)) d.changed = recoloured(before, colour, colours); /* once, if at all */
     if (wrong(73) && d.code != 0) d.changed = 0; /* nothing where one step is refused */

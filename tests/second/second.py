@@ -13,6 +13,7 @@ MODEL = os.path.join(HERE, "model")
 sys.path.insert(0, os.path.join(HERE, "generate"))
 
 TOO_LONG = 600      # seconds for one input
+SEEDS, LINE_SEEDS = 300, 20     # of bites: for schedules, and for the other modes
 
 
 def sources():
@@ -60,6 +61,11 @@ def answer(command, text):
     except subprocess.TimeoutExpired:
         os.killpg(process.pid, signal.SIGKILL)
         return process.communicate()[0], b"stopped after %d seconds" % TOO_LONG
+
+
+def seeds(mode):
+    """How many seeds bites uses in a mode; the schedules are the empty one."""
+    return LINE_SEEDS if mode else SEEDS
 
 
 def close(passed, failed):

@@ -5,7 +5,7 @@ use mathlib.Core.Bool.{true}
 use mathlib.Core.List.{List}
 use lib.ListN.{getD, set}
 use native.Mathlib.Omega.{arith}
-use Rattle.base.proofs.Tests.{pick-yes, pick-no, lt-no, le-yes, le-no, eq-yes, eq-no, or-skip}
+use Rattle.base.proofs.Tests.{pick-yes, pick-no, lt-no, le-yes, le-no, eq-yes, eq-no}
 use Rattle.base.proofs.Tests.{every-skip, every-last, not-is}
 use Rattle.rules.specs.declared.Record.{Record}
 use Rattle.rules.specs.declared.Phase.the-variants.{Roots, Append}
@@ -79,7 +79,7 @@ module _ (l r c : List ℕ) (x : Record) (i : ℕ) (p : Passes (state l r c x))
       (moved (moreFree (withLast x i)) (Append (i + 1))) in
       let w : o ≡ phaseStep s (Append i) =
       pick-no _ _ _ _ (eq-no (getD c i 0) 2 (λ z. omega arith)) (pick-yes _ _ _ _ (eq-yes _ _ v)
-      (pick-no _ _ _ _ (or-skip _ _ _ (le-no _ _ root) (eq-no _ _ last))
-      (rw (onward (moreFree (withLast x i)) i q)))) in
+      (pick-no _ _ _ _ (le-no _ _ root) (pick-no _ _ _ _ (eq-no _ _ last)
+      (rw (onward (moreFree (withLast x i)) i q))))) in
       step-on s o 0 p (w ∙ ap (phaseStep s) (sym h)) refl (g .blackened) b
       (more-fits (x .m) (x .r) i (x .free) root free) (unchanged c)

@@ -33,10 +33,10 @@ unfolding phaseStep scanStep
 look-gray s i k h =
     pick-no _ _ _ _ (lt-no 2 (colourOf s i) (omega arith)) (pick-yes _ _ _ _ (eq-yes _ _ h) refl)
 
-edge-on : (s : State) (i e : ℕ) (p : Phase) → CanShade (s .rec .m) (s .colour) e
-    → did (Shaded e) (shade s e) (moved (s .rec) p) ≡ edgeStep s i e p
+edge-on : (s : State) (i side e : ℕ) (p : Phase) → CanShade (s .rec .m) (s .colour) e
+    → did (Shaded e) (shade s e) (moved (s .rec) p) ≡ edgeStep s i side e p
 unfolding edgeStep shadeStep badEdge
-edge-on s i e p f =
+edge-on s i side e p f =
     pick-no _ _ _ _ (or-skip _ _ _ (le-no _ _ (f .below)) (eq-no _ _ (f .not-free)))
     (pick-no _ _ _ _ (lt-no _ _ (f .colour)) refl)
 
@@ -100,11 +100,11 @@ module _ (l r c : List ℕ) (x : Record) (i k : ℕ) (p : Passes (state l r c x)
       (look-gray (state l r c x) i k gray ∙ ap (phaseStep (state l r c x)) (sym h)) refl
       (g .blackened) (omega arith) (free-fits p) (unchanged c) in
       let a2 =
-      step-on (state l r c y1) _ v1 (a1 .passes) (edge-on (state l r c y1) i e (Right i) left) refl
-      (g .blackened) (omega arith) (free-fits (a1 .passes)) refl in
+      step-on (state l r c y1) _ v1 (a1 .passes) (edge-on (state l r c y1) i 0 e (Right i) left)
+      refl (g .blackened) (omega arith) (free-fits (a1 .passes)) refl in
       let a3 =
       step-on (state l r c1 y2) _ v2 (a2 .passes)
-      (edge-on (state l r c1 y2) i f (Black i)
+      (edge-on (state l r c1 y2) i 1 f (Black i)
       (still-can-shade _ c e f (omega (arith, g, left)) right)) refl (g .blackened) (omega arith)
       (free-fits (a2 .passes)) refl in
       let a4 =

@@ -1,2 +1,3 @@
 pub mod StrideAndStep
 pub mod Last
+pub mod Small

@@ -5,7 +5,7 @@ use mathlib.Core.List.{List}
 use lib.Dec.{eqb}
 use Rattle.rules.specs.Table.{State, refused, state}
 use Rattle.rules.specs.Check.{check}
-use Rattle.rules.specs.Steps.{step, collecting, codeOf}
+use Rattle.rules.specs.Steps.{step, collecting, codeOf, detailOf}
 use Rattle.rules.specs.Schedules.{Followed, followed}
 use Rattle.rules.specs.declared.Answer.{Answer}
 use Rattle.rules.specs.declared.Answer.the-variants.{Named}
@@ -13,7 +13,8 @@ use Rattle.batch.specs.declared.Many.{Many}
 
 -- what `collect_many` hands back, with the three slices as it leaves them
 abbrev pub many : Many → List ℕ → List ℕ → List ℕ → Followed
-many d l r c = followed (d .done) (codeOf (d .answer)) (state l r c (d .rec))
+many d l r c =
+    followed (d .done) (codeOf (d .answer)) (detailOf (d .answer)) (state l r c (d .rec))
 
 -- [Many 2] what the last of n steps answers, or the one that is refused; a where none is made
 unfoldable pub answering : ℕ → Answer → State → Answer

@@ -9,7 +9,7 @@ use lib.Dec.{eqb}
 use Rattle.base.specs.Choice.{pick}
 use Rattle.base.proofs.Tests.{pick-yes, pick-no, code-yes, code-no}
 use Rattle.rules.specs.Table.{State, Outcome, state}
-use Rattle.rules.specs.Steps.{step, collecting, codeOf}
+use Rattle.rules.specs.Steps.{step, collecting, codeOf, detailOf}
 use Rattle.rules.specs.Schedules.{followed, follow, collects}
 use Rattle.rules.specs.declared.Record.{Record}
 use Rattle.rules.proofs.Refused.{refused-stays}
@@ -24,7 +24,7 @@ module _ (n k : ℕ) (s : State) where
       (q : code ≡ codeOf (o .answer)) where
     turn : follow (collects (n - k)) k s
         ≡ pick (eqb (codeOf (o .answer)) 0) (follow (collects (n - (k + 1))) (k + 1) (o .state))
-        (followed k (codeOf (o .answer)) s)
+        (followed k (codeOf (o .answer)) (detailOf (o .answer)) s)
     unfolding follow collects
     turn =
         let one : n - k ≡ suc (n - (k + 1)) = omega arith in
@@ -34,17 +34,18 @@ module _ (n k : ℕ) (s : State) where
         → follow (collects (n - k)) k s ≡ follow (collects (n - (k + 1))) (k + 1) (o .state)
     done z = turn ∙ sym (pick-yes _ _ _ _ (code-yes _ _ _ q z) refl)
 
-    pub refused : (code ≡ 0 → ⊥) → followed k code (o .state) ≡ follow (collects (n - k)) k s
-    refused z =
+    pub refused : (detail : ℕ) → detail ≡ detailOf (o .answer) → (code ≡ 0 → ⊥)
+        → followed k code detail (o .state) ≡ follow (collects (n - k)) k s
+    refused detail d z =
         let answered : codeOf (o .answer) ≡ codeOf (step collecting s .answer)
         = ap (λ (o : Outcome). codeOf (o .answer)) e in
         let stays : o .state ≡ s =
         ap (λ (o : Outcome). o .state) e
         ∙ refused-stays s collecting (λ y. z (q ∙ answered ∙ y)) in
-        rw (stays, q) (pick-no _ _ _ _ (code-no _ _ _ q z) refl ∙ sym turn)
+        rw (stays, q, d) (pick-no _ _ _ _ (code-no _ _ _ q z) refl ∙ sym turn)
 
   -- none is left
-  pub none-left : n ≤ k → followed k 0 s ≡ follow (collects (n - k)) k s
+  pub none-left : n ≤ k → followed k 0 0 s ≡ follow (collects (n - k)) k s
   unfolding follow collects
   none-left le =
       let none : n - k ≡ 0 = omega arith in
@@ -57,7 +58,7 @@ module _ (n : ℕ) (l r c w : List ℕ) where
   spurned h = pick-no _ _ _ _ h refl
 
   pub faces : true ≡ isRecord w → (x : Record) → x ≡ recordOf w → (l′ r′ c′ w′ : List ℕ)
-      (z : Single) → followed (z .done) (z .code) (state l′ r′ c′ (z .rec))
+      (z : Single) → followed (z .done) (z .code) (z .detail) (state l′ r′ c′ (z .rec))
       ≡ follow (collects n) 0 (state l r c x) → w′ ≡ wordsOf (z .rec)
       → stepped (z .done) l′ r′ c′ w′ ≡ steps n l r c w
   unfolding steps

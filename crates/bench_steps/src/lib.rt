@@ -8,16 +8,17 @@ ghost use Rattle.bench_steps.specs.Steps.{stepped, steps};
 ghost use Rattle.base.specs.Lent.{was, is};
 ghost use Rattle.rules.specs.Lent.{given};
 
-// How many steps were done, the code that ended them or 0, and the record.
+// How many steps were done, the code that ended them or 0, with its detail, and the record.
 struct Single {
     done: usize,
     code: u8,
+    detail: u8,
     rec: Record,
 }
 
 // n single steps, one call of `collect` each, until one is refused.
 fn one_by_one(left: &mut [u16], right: &mut [u16], colour: &mut [u8], x: Record, n: usize) -> Single
-    ensures { λ r. ⌜ followed (r .done) (r .code)
+    ensures { λ r. ⌜ followed (r .done) (r .code) (r .detail)
         (state (is left) (is right) (is colour) (r .rec))
         ≡ follow (collects n) 0 (given left right colour x) ⌝ }
 {
@@ -29,11 +30,21 @@ fn one_by_one(left: &mut [u16], right: &mut [u16], colour: &mut [u8], x: Record,
         let answer = made.answer;
         let code = answer.code();
         if code != 0 {
-            return Single { done, code, rec };
+            return Single {
+                done,
+                code,
+                detail: answer.detail(),
+                rec,
+            };
         }
         done += 1;
     }
-    Single { done, code: 0, rec }
+    Single {
+        done,
+        code: 0,
+        detail: 0,
+        rec,
+    }
 }
 
 // The same over words that C keeps; how many were done.

@@ -27,7 +27,7 @@ fn shade_step(colour: &mut [u8], x: Record, n: u16, then: Phase) -> Made
 {
     let at = n as usize;
     if 2 < colour[at] {
-        return rules::refusal(7, n, x);
+        return rules::refusal(14, n, x);
     }
     let changed = table::shade_node(colour, n);
     Made {
@@ -59,7 +59,7 @@ fn scan_step(colour: &[u8], x: Record, i: u16, k: u16) -> Made
 {
     let at = i as usize;
     if 2 < colour[at] {
-        return rules::refusal(7, i, x);
+        return rules::refusal(14, i, x);
     }
     if colour[at] == 1 {
         return Made {
@@ -82,15 +82,15 @@ fn scan_step(colour: &[u8], x: Record, i: u16, k: u16) -> Made
     }
 }
 
-// Left i or Right i: shades e, that edge of node i, and goes on to a phase.
-fn edge_step(colour: &mut [u8], x: Record, i: u16, e: u16, then: Phase) -> Made
+// Left i or Right i: shades e, the edge of node i on that side, and goes on to a phase.
+fn edge_step(colour: &mut [u8], x: Record, i: u16, side: u8, e: u16, then: Phase) -> Made
     requires { ⌜ Checked (x .m) (x .m) (length (now colour)) x ⌝ }
     ensures { λ r. ⌜ ((es : List (List ℕ)) → handed r es (is colour)
-        ≡ edgeStep (table es (was colour) x) i e then) ⌝ }
+        ≡ edgeStep (table es (was colour) x) i side e then) ⌝ }
     ensures { λ r. ⌜ r .changed ≡ differing (was colour) (is colour) ⌝ }
 {
     if table::bad_edge(x.m, e) {
-        return rules::refusal(7, i, x);
+        return rules::refusal_with(7, i, side, x);
     }
     shade_step(colour, x, e, then)
 }
@@ -136,10 +136,10 @@ fn append_white(left: &mut [u16], right: &mut [u16], x: Record, i: u16) -> Made
     let at = i as usize;
     let end = x.last as usize;
     if i <= x.r + 1 {
-        return rules::refusal(7, i, x);
+        return rules::refusal_with(15, i, rules::WHITE_ROOT, x);
     }
     if i == x.last {
-        return rules::refusal(7, i, x);
+        return rules::refusal_with(15, i, rules::WHITE_LAST, x);
     }
     left[at] = 0;
     right[at] = 0;
@@ -170,7 +170,10 @@ fn append_step(left: &mut [u16], right: &mut [u16], colour: &mut [u8], x: Record
     if colour[at] == 0 {
         return append_white(left, right, x, i);
     }
-    rules::refusal(7, i, x)
+    if 2 < colour[at] {
+        return rules::refusal(14, i, x);
+    }
+    rules::refusal_with(15, i, rules::GRAY_NODE, x)
 }
 
 // The step of a phase, where neither code 1 nor 2 is given.
@@ -193,6 +196,7 @@ pub fn phase_step(
             colour,
             x,
             i,
+            rules::LEFT,
             table::edge(left, right, 0, i),
             Phase::Right(i),
         ),
@@ -200,6 +204,7 @@ pub fn phase_step(
             colour,
             x,
             i,
+            rules::RIGHT,
             table::edge(left, right, 1, i),
             Phase::Black(i),
         ),
@@ -208,8 +213,8 @@ pub fn phase_step(
     }
 }
 
-// One step of the collector. Refused: 1 and 2 for the sizes and the record, 7 where a value that
-// the step reads is bad.
+// One step of the collector. Refused: 1 and 2 for the sizes and the record, 7, 14 and 15 where a
+// value that the step reads is bad.
 pub fn collect(left: &mut [u16], right: &mut [u16], colour: &mut [u8], x: Record) -> Made
     ensures { λ r. ⌜ leaves r left right colour ≡ step collecting (given left right colour x) ⌝ }
     ensures { λ r. ⌜ r .changed ≡ changes collecting (given left right colour x) ⌝ }

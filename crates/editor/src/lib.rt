@@ -41,13 +41,13 @@ pub fn look(left: &[u16], right: &[u16], colour: &[u8], x: Record, p: Place) -> 
         return rules::refusal(code, 0, x);
     }
     let found = places::walk(left, right, x.m, p);
-    let Walk::At(n) = found else {
-        return rules::refusal(7, places::stood(found), x);
-    };
-    Made {
-        answer: Answer::Named(n),
-        changed: 0,
-        rec: x,
+    match found {
+        Walk::At(n) => Made {
+            answer: Answer::Named(n),
+            changed: 0,
+            rec: x,
+        },
+        Walk::Damaged(n, turn) => rules::refusal_with(7, n, turn, x),
     }
 }
 
@@ -62,14 +62,16 @@ fn link_to(left: &mut [u16], right: &mut [u16], x: Record, side: u32, q: Place, 
     ensures { λ r. ⌜ r .changed ≡ 0 ⌝ }
 {
     let to = places::walk(left, right, x.m, q);
-    let Walk::At(t) = to else {
-        return rules::refusal(7, places::stood(to), x);
-    };
-    table::set_edge(left, right, side, n, t);
-    Made {
-        answer: Answer::Linked(t),
-        changed: 0,
-        rec: x.owing(t),
+    match to {
+        Walk::At(t) => {
+            table::set_edge(left, right, side, n, t);
+            Made {
+                answer: Answer::Linked(t),
+                changed: 0,
+                rec: x.owing(t),
+            }
+        }
+        Walk::Damaged(t, turn) => rules::refusal_with(7, t, turn, x),
     }
 }
 
@@ -87,7 +89,7 @@ fn link_from(left: &mut [u16], right: &mut [u16], x: Record, p: Place, side: u32
     let from = places::depart(left, right, x.m, p);
     match from {
         Source::Found(n) => link_to(left, right, x, side, q, n),
-        Source::Missing(code, n) => rules::refusal(code, n, x),
+        Source::Missing(code, n, detail) => rules::refusal_with(code, n, detail, x),
     }
 }
 
@@ -125,7 +127,7 @@ fn pay(colour: &mut [u8], x: Record, owed: Owed) -> Made
         Owed::Node(n) => {
             let at = n as usize;
             if 2 < colour[at] {
-                return rules::refusal(7, n, x);
+                return rules::refusal(14, n, x);
             }
             let changed = table::shade_node(colour, n);
             Made {

@@ -14,8 +14,8 @@ use Rattle.base.proofs.Tests.{lt-yes, lt-no, eq-no, not-is, every-skip, every-l
 use Rattle.base.proofs.Tests.{or-skip, pick-yes, pick-no, code-yes, code-no, split}
 use Rattle.rules.specs.Table.{State, mostNodes, badEdge}
 use Rattle.rules.specs.Check.{check}
-use Rattle.rules.specs.Meet.{Met, met, meet, anyEdge}
-use Rattle.rules.specs.InUse.{isHurt, firstHurt, countMet, inUse}
+use Rattle.rules.specs.Meet.{Met, met, meet, anyEdge, firstSide}
+use Rattle.rules.specs.InUse.{isHurt, firstHurt, hurtAt, countMet, inUse}
 use Rattle.rules.specs.declared.Answer.{Answer}
 use Rattle.rules.specs.declared.Answer.the-variants.{Counted, Refused}
 use Rattle.reach.proofs.Kept.{top}
@@ -107,12 +107,22 @@ none-hurt m j k l r num p q u v = go (decLt (firstHurt m (l ∷ r ∷ []) num) m
     go (yes h) = absurd
         (some-bad _ h (either _ _ (every-two _ _ (every-two _ _ (w .passes h) .1) .0)))
 
+-- the first hurt node has a bad edge
+pub hurt-has : (m : ℕ) (es : List (List ℕ)) (num : List ℕ) (n : ℕ) → n ≡ firstHurt m es num
+    → n < m → true ≡ anyEdge (badEdge m) es n
+unfolding firstHurt isHurt
+hurt-has m es num n e h =
+    let w : Passes (isHurt m es num) 0 m (firstHurt m es num) = lowest-passes _ m in
+    let k = rw (sym e) at w in
+    sym (every-two _ _ (every-two _ _ (k .passes h) .1) .0)
+
 -- what is answered, n being the first hurt node or m
 module _ (m r : ℕ) (es : List (List ℕ)) (num order : List ℕ) (tail n : ℕ)
     (e : n ≡ firstHurt m es num) where
-  pub met-hurt : n < m → Refused 7 n ≡ countMet m r es (met num order tail)
-  unfolding countMet
-  met-hurt h = rw (← e) (pick-yes _ _ _ _ (lt-yes n m h) refl)
+  pub met-hurt : (side : ℕ) → n < m → side ≡ firstSide (badEdge m) es n
+      → Refused 7 n side ≡ countMet m r es (met num order tail)
+  unfolding countMet hurtAt
+  met-hurt side h q = rw (← e, q) (pick-yes _ _ _ _ (lt-yes n m h) refl)
 
   pub met-whole : m ≤ n → Counted (tail - (r + 2)) ≡ countMet m r es (met num order tail)
   unfolding countMet
@@ -127,9 +137,9 @@ tail-fits m r es s e room few =
 
 -- code is what the check answered
 module _ (s : State) (code : ℕ) (e : code ≡ check s) where
-  pub in-use-refused : (code ≡ 0 → ⊥) → Refused code 0 ≡ inUse s
+  pub in-use-refused : (code ≡ 0 → ⊥) → Refused code 0 0 ≡ inUse s
   unfolding inUse
-  in-use-refused h = pick-no _ _ _ _ (code-no _ _ _ e h) (ap (λ (c : ℕ). Refused c 0) e)
+  in-use-refused h = pick-no _ _ _ _ (code-no _ _ _ e h) (ap (λ (c : ℕ). Refused c 0 0) e)
 
   pub in-use-counted : (a : Answer) → code ≡ 0
       → a ≡ countMet (s .rec .m) (s .rec .r) (s .edges) (meet (s .rec .m) (s .rec .r) (s .edges))

@@ -7,9 +7,10 @@ ghost use mathlib.Core.List.{List, [], _∷_};
 ghost use Prim.Native.Nat.{ℕ, _+_, _<_, _≤_};
 ghost use lib.ListN.{length};
 ghost use Rattle.base.specs.Lent.{was};
-ghost use Rattle.rules.specs.Table.{mostNodes, mostSlots};
+ghost use mathlib.Core.Bool.{true};
+ghost use Rattle.rules.specs.Table.{mostNodes, mostSlots, badEdge};
 ghost use Rattle.rules.specs.Lent.{given};
-ghost use Rattle.rules.specs.Meet.{met, meet};
+ghost use Rattle.rules.specs.Meet.{met, meet, anyEdge, firstSide};
 ghost use Rattle.rules.specs.InUse.{isHurt, firstHurt, countMet, inUse};
 ghost use Rattle.in_use.specs.Bad.{oneBad, countBad};
 
@@ -88,6 +89,19 @@ fn first_hurt(left: &[u16], right: &[u16], num: &[u16; MOST_NODES], m: u16) -> u
     m
 }
 
+// The side of the first bad edge of node n, which has one.
+fn hurt_side(left: &[u16], m: u16, n: u16) -> u8
+    requires { ⌜ n < length (now left) ⌝ }
+    ensures { λ side. ⌜ ((right : List ℕ) → true ≡ anyEdge (badEdge m) (was left ∷ right ∷ []) n
+        → side ≡ firstSide (badEdge m) (was left ∷ right ∷ []) n) ⌝ }
+{
+    let at = n as usize;
+    if table::bad_edge(m, left[at]) {
+        return rules::LEFT;
+    }
+    rules::RIGHT
+}
+
 // What is answered where the numbers from 2 to below tail were given.
 fn count_met(
     left: &[u16],
@@ -108,7 +122,7 @@ fn count_met(
 {
     let n = first_hurt(left, right, num, m);
     if n < m {
-        return Answer::refused(7, n);
+        return Answer::refused_with(7, n, hurt_side(left, m, n));
     }
     Answer::Counted(tail as u16 - (r + 2))
 }

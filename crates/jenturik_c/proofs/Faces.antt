@@ -1,5 +1,5 @@
 -- How a call over words is made of the call over the record.
-use Prim.Native.Nat.{ℕ}
+use Prim.Native.Nat.{ℕ, _<_}
 use mathlib.Core.Bool.{true, false}
 use mathlib.Core.List.{List}
 use mathlib.Core.Path.{_≡_, refl}
@@ -8,7 +8,9 @@ use Rattle.rules.specs.Table.{State, Outcome, state, outcome}
 use Rattle.rules.specs.Schedules.{Followed, followed}
 use Rattle.rules.specs.declared.Record.{Record}
 use Rattle.rules.specs.declared.Made.{Made}
+use Rattle.rules.specs.Steps.{codeOf, detailOf}
 use Rattle.batch.specs.Last.{lastAnswer}
+use Rattle.batch.proofs.Small.{last-small}
 use Rattle.rules.specs.declared.Answer.{Answer}
 use Rattle.record_words.specs.Words.{wordsOf, recordOf, isRecord}
 use Rattle.jenturik_c.specs.Face.{Answered, toldOf, noRecord, shown, faced, face, faceCount}
@@ -21,7 +23,7 @@ module _ (l r c w : List ℕ) where
     unfolding face
     spurned f t e = pick-no _ _ _ _ h (rw e)
 
-    pub spurned-run : (f : State → Followed) → facedRun 0 2 l r c w ≡ faceRun f l r c w
+    pub spurned-run : (f : State → Followed) → facedRun 0 2 0 l r c w ≡ faceRun f l r c w
     unfolding faceRun
     spurned-run f = pick-no _ _ _ _ h refl
 
@@ -43,11 +45,11 @@ module _ (l r c w : List ℕ) where
     unfolding face
     faces f d t q v k = pick-yes _ _ _ _ h (rw (← e, ← q, v, k))
 
-    pub faces-run : (f : State → Followed) (n code : ℕ) (y : Record)
-        → followed n code (state l′ r′ c′ y) ≡ f (state l r c x) → w′ ≡ wordsOf y
-        → facedRun n code l′ r′ c′ w′ ≡ faceRun f l r c w
+    pub faces-run : (f : State → Followed) (n code detail : ℕ) (y : Record)
+        → followed n code detail (state l′ r′ c′ y) ≡ f (state l r c x) → w′ ≡ wordsOf y
+        → facedRun n code detail l′ r′ c′ w′ ≡ faceRun f l r c w
     unfolding faceRun
-    faces-run f n code y q v = pick-yes _ _ _ _ h (rw (← e, ← q, v))
+    faces-run f n code detail y q v = pick-yes _ _ _ _ h (rw (← e, ← q, v))
 
   pub faces-count : (x : Record) → true ≡ isRecord w → x ≡ recordOf w → (f : State → ℕ) (n : ℕ)
       → n ≡ f (state l r c x) → n ≡ faceCount f l r c w
@@ -63,3 +65,8 @@ module _ (l r c w : List ℕ) where
 pub shows : (o : Outcome) (d : Made) (t : Answered) (l r c w : List ℕ) → outcome d l r c ≡ o → w
     ≡ wordsOf (d .rec) → t ≡ toldOf (d .answer) → faced t l r c w ≡ shown o
 shows o d t l r c w q v k = rw (← q, v, k)
+
+-- what the last of many steps answers fits in its byte
+pub packs : (n : ℕ) (s : State) (a : Answer) (code detail : ℕ) → a ≡ lastAnswer n s
+    → code ≡ codeOf a → detail ≡ detailOf a → (code < 32) × (detail < 8)
+packs n s a code detail e p q = rw (p, q, e) (last-small n s)

@@ -26,7 +26,7 @@ same-record : (code n : ℕ) (x : Record) (g : Going) → g ≡ begun code n x �
 unfolding begun
 same-record code n x g e =
     ap (λ (z : Going). z .rec) e ∙ split (λ (z : Going). z .rec ≡ x) (eqb code 0) (going 0 n 0 x)
-    (ended 0 code 0 x) (λ h. refl) (λ h. refl)
+    (ended 0 code 0 0 x) (λ h. refl) (λ h. refl)
 
 module _ (w : List ℕ) where
   many : (n i : ℕ) → length (stepsFrom w i n) ≡ n
@@ -92,7 +92,7 @@ module _ (w : List ℕ) where
   pub ends : (l r c : List ℕ) (x : Record) (g₀ g : Going) (s : State)
       → g₀ ≡ begun (check (state l r c x)) (length w / STEP_WORDS) x → Stands g₀ l r c g s
       → g .end ≤ g .at
-      → (followed (g .at) (g .code) s ≡ schedule (stepsOf w) (state l r c x))
+      → (followed (g .at) (g .code) (g .detail) s ≡ schedule (stepsOf w) (state l r c x))
       × (g .changed ≡ changesAll (stepsOf w) (state l r c x))
   ends l r c x g₀ g s e i le =
       let over = leaves (stepsOf w) _ _ g s i le in

@@ -32,7 +32,8 @@ use Rattle.rules.proofs.Refused.{refused-stays}
 use Rattle.schedule.proofs.PartOfRun.{schedule-run}
 use Rattle.record_words.specs.Words.{wordsOf, recordOf, isRecord}
 use Rattle.record_words.proofs.RoundTrip.{words-back}
-use Rattle.jenturik_c.specs.Face.{Answered, Faced, toldOf, shown, faced, face, asking}
+use Rattle.jenturik_c.specs.Face.{Answered, answered, Faced, toldOf, shown, faced, face}
+use Rattle.jenturik_c.specs.Face.{asking}
 use Rattle.jenturik_c.specs.Flat.{stepsOf, scheduleOf, STEP_WORDS}
 use Rattle.jenturik_c.specs.Many.{FacedRun, facedRun, shownRun, faceRun}
 
@@ -40,7 +41,7 @@ module _ (s : State) where
   arrived : (w : Walk) (go : ℕ → Outcome) → ((n : ℕ) → go n .state ≡ s) → arrive s w go .state ≡ s
   unfolding arrive
   arrived (At n) go p = p n
-  arrived (Damaged n) go p = refl
+  arrived (Damaged n side) go p = refl
 
   pub look-stays : (p : Place) → step (looking p) s .state ≡ s
   unfolding look unless
@@ -60,7 +61,7 @@ unfolding scheduleOf run
 words-follow v s =
     split (λ (z : Followed). z .state ≡ run (take (z .done) (stepsOf v)) s)
     (eqb (length v % STEP_WORDS) 0) (schedule (stepsOf v) s)
-    (followed 0 (first (check s ∷ 10 ∷ [])) s)
+    (followed 0 (first (check s ∷ 10 ∷ [])) 0 s)
     (λ q. schedule-run (stepsOf v) s) (λ q. refl)
 
 module _ (l r c w : List ℕ) where
@@ -109,32 +110,43 @@ module _ (l r c w : List ℕ) where
   -- of many steps in one call those that were done stand, and no other changed anything
   pub done-kept : true ≡ isRecord w → (f : State → Followed) (cs : List Step) → Follows f cs
       → faceRun f l r c w
-      ≡ shownRun (followed (f here .done) (f here .code) (run (take (f here .done) cs) here))
+      ≡ shownRun (followed (f here .done) (f here .code) (f here .detail)
+      (run (take (f here .done) cs) here))
   unfolding faceRun
   done-kept h f cs k =
       sym (pick-yes _ _ _ _ h refl)
-      ∙ ap (λ (s : State). shownRun (followed (f here .done) (f here .code) s)) (k here)
+      ∙ ap (λ (s : State). shownRun (followed (f here .done) (f here .code) (f here .detail) s))
+      (k here)
 
   -- where none was done, neither the slices nor the words changed, whatever they are
   pub none-kept : (f : State → Followed) (cs : List Step) → Follows f cs
       → faceRun f l r c w .done ≡ 0
-      → faceRun f l r c w ≡ facedRun 0 (faceRun f l r c w .code) l r c w
+      → faceRun f l r c w
+      ≡ facedRun 0 (faceRun f l r c w .code) (faceRun f l r c w .detail) l r c w
   unfolding faceRun run
   none-kept f cs k =
-      split (λ (z : FacedRun). z .done ≡ 0 → z ≡ facedRun 0 (z .code) l r c w) (isRecord w) _ _
+      split (λ (z : FacedRun). z .done ≡ 0 → z ≡ facedRun 0 (z .code) (z .detail) l r c w)
+      (isRecord w) _ _
       (λ h n.
       let z = f here in
       let same = k here ∙ ap (λ (d : ℕ). run (take d cs) here) n in
       told-back
-      (λ es k v. record { done = z .done; code = z .code; edges = es; colour = k; words = v })
+      (λ es k v. record {
+        done = z .done;
+        code = z .code;
+        detail = z .detail;
+        edges = es;
+        colour = k;
+        words = v;
+      })
       (z .state) h same
-      ∙ ap (λ (d : ℕ). facedRun d (z .code) l r c w) n)
+      ∙ ap (λ (d : ℕ). facedRun d (z .code) (z .detail) l r c w) n)
       (λ h n. refl)
 
 -- a refused Fresh or Load leaves the slices, and writes the words of a table of no nodes
 module _ (l r c : List ℕ) where
   abbrev pub Refused : Faced
-  Refused = faced (record { what = 0; code = 1; node = 0 }) l r c (wordsOf (freshRecord 0 0 0 0))
+  Refused = faced (answered 0 1 0 0) l r c (wordsOf (freshRecord 0 0 0 0))
 
   pub fresh-kept : (m slots : ℕ) → (codeOf (fresh m slots (l ∷ r ∷ []) c .answer) ≡ 0 → ⊥)
       → shown (fresh m slots (l ∷ r ∷ []) c) ≡ Refused

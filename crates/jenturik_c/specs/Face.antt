@@ -4,7 +4,7 @@ use Prim.Native.Nat.{ℕ}
 use mathlib.Core.List.{List, [], _∷_}
 use lib.Dec.{ltb}
 use Rattle.rules.specs.Table.{State, Outcome, state, did}
-use Rattle.rules.specs.Steps.{codeOf, nodeOf}
+use Rattle.rules.specs.Steps.{codeOf, nodeOf, detailOf}
 use Rattle.rules.specs.declared.Place.{Place}
 use Rattle.rules.specs.declared.Answer.{Answer}
 use Rattle.rules.specs.declared.Answer.the-variants.{Started, Named, Linked, Taken, Shaded, Looked}
@@ -15,7 +15,7 @@ use Rattle.jenturik_c.specs.declared.Told.{Told}
 
 -- [C 5] what was done: 0 where nothing was
 abbrev pub whatOf : Answer → ℕ
-whatOf (Refused code n) = 0
+whatOf (Refused code n detail) = 0
 whatOf (Started n) = 1
 whatOf (Named n) = 2
 whatOf (Linked n) = 3
@@ -27,17 +27,22 @@ whatOf (Whitened n) = 8
 whatOf (Appended n) = 9
 whatOf (Counted k) = 10
 
--- what was done, the code and the node
+-- what was done, the code, the detail and the node
 pub record Answered : Type 0 where
   pub what : ℕ
   pub code : ℕ
+  pub detail : ℕ
   pub node : ℕ
 
+abbrev pub answered : ℕ → ℕ → ℕ → ℕ → Answered
+answered what code detail node =
+    record { what = what; code = code; detail = detail; node = node }
+
 abbrev pub answeredOf : Told → Answered
-answeredOf t = record { what = t .what; code = t .code; node = t .node }
+answeredOf t = answered (t .what) (t .code) (t .detail) (t .node)
 
 abbrev pub toldOf : Answer → Answered
-toldOf a = record { what = whatOf a; code = codeOf a; node = nodeOf a }
+toldOf a = answered (whatOf a) (codeOf a) (detailOf a) (nodeOf a)
 
 -- what is told, and the three slices and the words as the call leaves them
 pub record Faced : Type 0 where
@@ -62,7 +67,7 @@ shown o = record {
 
 -- [C 4] words that are no record's
 abbrev pub noRecord : Answered
-noRecord = record { what = 0; code = 2; node = 0 }
+noRecord = answered 0 2 0 0
 
 -- [C 1] the call f, where the words are a record's; [C 4] else nothing changes
 unfoldable pub face : (State → Outcome) → List ℕ → List ℕ → List ℕ → List ℕ → Faced

@@ -92,7 +92,7 @@ stepsOf w = stepsFrom w 0 (length w / STEP_WORDS)
 unfoldable pub scheduleOf : List ℕ → State → Followed
 scheduleOf w s =
     pick (eqb (length w % STEP_WORDS) 0) (schedule (stepsOf w) s)
-    (followed 0 (first (check s ∷ 10 ∷ [])) s)
+    (followed 0 (first (check s ∷ 10 ∷ [])) 0 s)
 
 -- [Changes 2] how many colours it changes
 unfoldable pub changesOf : List ℕ → State → ℕ

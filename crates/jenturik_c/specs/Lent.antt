@@ -23,10 +23,10 @@ tells t left right colour words = faced (answeredOf t) (is left) (is right) (is 
 abbrev pub facing : (State → Outcome) → Slice → Slice → Slice → Slice → Faced
 facing f left right colour words = face f (was left) (was right) (was colour) (was words)
 
--- the same where many steps are made: how many were done, and the code
-abbrev pub runs : ℕ → ℕ → Slice → Slice → Slice → Slice → FacedRun
-runs n code left right colour words =
-    facedRun n code (is left) (is right) (is colour) (is words)
+-- the same where many steps are made: how many were done, the code and the detail
+abbrev pub runs : ℕ → ℕ → ℕ → Slice → Slice → Slice → Slice → FacedRun
+runs n code detail left right colour words =
+    facedRun n code detail (is left) (is right) (is colour) (is words)
 
 abbrev pub facingRun : (State → Followed) → Slice → Slice → Slice → Slice → FacedRun
 facingRun f left right colour words =

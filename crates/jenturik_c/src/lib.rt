@@ -7,7 +7,7 @@ use rules::Record;
 use rules::Step;
 ghost use mathlib.Core.Path.{_≡_};
 ghost use mathlib.Core.List.{[], _∷_};
-ghost use Prim.Native.Nat.{_+_, _*_, _/_, _≤_};
+ghost use Prim.Native.Nat.{_+_, _*_, _/_, _<_, _≤_};
 ghost use lib.ListN.{length};
 ghost use mathlib.Core.Bool.{true};
 ghost use Rattle.rules.specs.Fresh.{fresh};
@@ -23,7 +23,7 @@ ghost use Rattle.jenturik_c.specs.Face.{asking};
 ghost use Rattle.jenturik_c.specs.Face.{placeOf};
 ghost use Rattle.jenturik_c.specs.Flat.{STEP_WORDS, zeros, kindAt, ofKind, stepAt, stepsOf};
 ghost use Rattle.jenturik_c.specs.Flat.{scheduleOf, changesOf};
-ghost use Rattle.jenturik_c.specs.Many.{lastOf};
+ghost use Rattle.jenturik_c.specs.Many.{codeIn, detailIn, lastOf};
 ghost use Rattle.jenturik_c.specs.Lent.{kept, tells, facing, runs, facingRun};
 ghost use Rattle.jenturik_c.specs.Lent.{facingLast, facingCount, Stays};
 ghost use Rattle.base.specs.Lent.{was, is};
@@ -54,27 +54,30 @@ const UNUSED: usize = 8;
 // A kind that no step has.
 const NO_KIND: u32 = 4294967295;
 
-// What a call answers: what was done (0: refused), the code, the node, and how many colours it
-// changed.
+// What a call answers: what was done (0: refused), the code, the detail, the node, and how many
+// colours it changed.
 #[repr(C)]
 pub struct Told {
     pub what: u32,
-    pub code: u32,
+    pub code: u16,
+    pub detail: u16,
     pub node: u32,
     pub changed: u32,
 }
 
-// What a schedule answers: how many steps were done, the code that ended it, or 0, and how many
-// colours they changed in all.
+// What a schedule answers: how many steps were done, the code that ended it, or 0, the detail, and
+// how many colours they changed in all.
 #[repr(C)]
 pub struct Done {
     pub done: usize,
-    pub code: u32,
+    pub code: u16,
+    pub detail: u16,
     pub changed: u32,
 }
 
 // What many steps of the collector answer: how many were done, how many colours they changed in
-// all, and what the last one answers, or the one that was refused.
+// all, and what the last one answers, or the one that was refused. The byte `code` has the code in
+// its lower five bits and the detail in its upper three.
 #[repr(C)]
 pub struct Last {
     pub done: usize,
@@ -88,7 +91,7 @@ fn what(a: Answer) -> u8
     ensures { λ n. ⌜ n ≡ whatOf a ⌝ }
 {
     match a {
-        Answer::Refused(_, _) => 0,
+        Answer::Refused(_, _, _) => 0,
         Answer::Started(_) => 1,
         Answer::Named(_) => 2,
         Answer::Linked(_) => 3,
@@ -108,7 +111,8 @@ fn tell(a: Answer, changed: u8) -> Told
 {
     Told {
         what: what(a) as u32,
-        code: a.code() as u32,
+        code: a.code() as u16,
+        detail: a.detail() as u16,
         node: a.node() as u32,
         changed: changed as u32,
     }
@@ -132,6 +136,7 @@ fn no_record() -> Told
     Told {
         what: 0,
         code: 2,
+        detail: 0,
         node: 0,
         changed: 0,
     }
@@ -387,6 +392,16 @@ pub extern "C" fn jenturik_collect(
     tell(answer, changed)
 }
 
+// A code and a detail in one byte.
+fn packed(code: u8, detail: u8) -> u8
+    requires { ⌜ code < 32 ⌝ }
+    requires { ⌜ detail < 8 ⌝ }
+    ensures { λ b. ⌜ codeIn b ≡ code ⌝ }
+    ensures { λ b. ⌜ detailIn b ≡ detail ⌝ }
+{
+    code + 32 * detail
+}
+
 // n steps of the collector, or as many as are done before one is refused.
 #[no_mangle]
 pub extern "C" fn jenturik_collect_many(
@@ -396,7 +411,7 @@ pub extern "C" fn jenturik_collect_many(
     words: &mut [u32; record_words::WORDS],
     n: usize,
 ) -> Last
-    ensures { λ r. ⌜ runs (r .done) (r .code) left right colour words
+    ensures { λ r. ⌜ runs (r .done) (codeIn (r .code)) (detailIn (r .code)) left right colour words
         ≡ facingRun (schedule (collects n)) left right colour words ⌝ }
     ensures { λ r. ⌜ lastOf r ≡ facingLast n left right colour words ⌝ }
     ensures { λ r. ⌜ Stays words ⌝ }
@@ -423,7 +438,7 @@ pub extern "C" fn jenturik_collect_many(
         changed: fitted(many.changed),
         node: answer.node(),
         what: what(answer),
-        code: answer.code(),
+        code: packed(answer.code(), answer.detail()),
     }
 }
 
@@ -502,6 +517,7 @@ fn follow(steps: &[u32], left: &mut [u16], right: &mut [u16], colour: &mut [u8],
     Ran {
         done: g.at,
         code: g.code,
+        detail: g.detail,
         changed: g.changed,
         rec,
     }
@@ -523,6 +539,7 @@ fn schedule_of(
         return Ran {
             done: 0,
             code: calls::unreadable(left.len(), right.len(), colour.len(), x),
+            detail: 0,
             changed: 0,
             rec: x,
         };
@@ -539,7 +556,7 @@ pub extern "C" fn jenturik_schedule(
     words: &mut [u32; record_words::WORDS],
     steps: &[u32],
 ) -> Done
-    ensures { λ r. ⌜ runs (r .done) (r .code) left right colour words
+    ensures { λ r. ⌜ runs (r .done) (r .code) (r .detail) left right colour words
         ≡ facingRun (scheduleOf (was steps)) left right colour words ⌝ }
     ensures { λ r. ⌜ Stays words ⌝ }
     ensures { λ r. ⌜ r .changed
@@ -550,6 +567,7 @@ pub extern "C" fn jenturik_schedule(
         return Done {
             done: 0,
             code: 2,
+            detail: 0,
             changed: 0,
         };
     }
@@ -559,7 +577,8 @@ pub extern "C" fn jenturik_schedule(
     *words = v;
     Done {
         done: ran.done,
-        code: ran.code as u32,
+        code: ran.code as u16,
+        detail: ran.detail as u16,
         changed: fitted(ran.changed),
     }
 }

@@ -9,7 +9,7 @@ use borrow.Author.Tests.{eqb-false, eq-eqb, ne-eqb}
 use lib.Dec.{eqb}
 use Rattle.base.specs.Choice.{pick}
 use Rattle.base.proofs.Tests.{split, pick-no, eq-no}
-use Rattle.rules.specs.Table.{State, Outcome, unless}
+use Rattle.rules.specs.Table.{State, Outcome, refused, unless}
 use Rattle.rules.specs.Check.{check}
 use Rattle.rules.specs.Collector.{collect}
 use Rattle.rules.specs.Steps.{step, collecting, codeOf}
@@ -22,21 +22,21 @@ use Rattle.lines.specs.Lines.{prints, startOf, collected}
 onward : Followed → Followed
 onward f =
     let b = schedule (collects 1) (f .state) in
-    pick (eqb (f .code) 0) (followed (f .done + b .done) (b .code) (b .state)) f
+    pick (eqb (f .code) 0) (followed (f .done + b .done) (b .code) (b .detail) (b .state)) f
 
--- the first step's code where 1 or 2 is given
-judged : (s : State) → (check s ≡ 0 → ⊥) → codeOf (step collecting s .answer) ≡ check s
+-- the first step's answer where 1 or 2 is given
+judged : (s : State) → (check s ≡ 0 → ⊥) → step collecting s .answer ≡ refused (check s) 0
 unfolding collect unless
 judged s h =
     rw step-collecting
-    (sym (ap (λ (o : Outcome). codeOf (o .answer)) (pick-no _ _ _ _ (eq-no _ _ h) refl)))
+    (sym (ap (λ (o : Outcome). o .answer) (pick-no _ _ _ _ (eq-no _ _ h) refl)))
 
-one : (n : ℕ) (s : State) → follow (collects 1) n s ≡ onward (followed n 0 s)
+one : (n : ℕ) (s : State) → follow (collects 1) n s ≡ onward (followed n 0 0 s)
 unfolding onward schedule follow collects pick
 one n s = go (eqb (check s) 0) refl (eqb (codeOf (step collecting s .answer)) 0) refl
   where
     go : (a : Bool) → eqb (check s) 0 ≡ a → (b : Bool) → eqb (codeOf (step collecting s .answer)) 0
-        ≡ b → follow (collects 1) n s ≡ onward (followed n 0 s)
+        ≡ b → follow (collects 1) n s ≡ onward (followed n 0 0 s)
     go true q true p = rw (p, q)
     go true q false p = rw (p, q, add-zero)
     go false q b p = rw (judged s (eqb-false _ _ q), q, add-zero)

@@ -58,7 +58,7 @@ module _ (m r : ℕ) where
   fresh-in s =
       pick (sizeOk m r (m ∷ m ∷ []) m) (record
       { answer = Started (freshLast m r); state = freshState 2 m r })
-      (record { answer = Refused 1 0; state = s })
+      (record { answer = Refused 1 0 0; state = s })
 
   judged : (l k c : List ℕ) → length l ≡ m → length k ≡ m → length c ≡ m
       → fresh m r (l ∷ k ∷ []) c ≡ fresh-in (state l k c (freshRecord 0 0 0 0))
@@ -113,14 +113,14 @@ module _ (m r : ℕ) where
             (placed
             (pick b (record { answer = Started (freshLast m r); state = freshState 2 m r })
             (record {
-              answer = Refused 1 0;
+              answer = Refused 1 0 0;
               state = state (take m l) (take m k) (take m c)
                   (freshRecord 0 0 0 0);
             })) (drop m l) (drop m k) (drop m c))
             (answered
             (pick b (record { answer = Started (freshLast m r); state = freshState 2 m r })
             (record {
-              answer = Refused 1 0;
+              answer = Refused 1 0 0;
               state = state (replicate m 0) (replicate m 0)
                   (replicate m 0) (freshRecord 0 0 0 0);
             })))

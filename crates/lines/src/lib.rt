@@ -57,6 +57,7 @@ fn collect_many(left: &mut [u16], right: &mut [u16], colour: &mut [u8], x: Recor
     Ran {
         done: made.done,
         code: answer.code(),
+        detail: answer.detail(),
         changed: made.changed,
         rec,
     }

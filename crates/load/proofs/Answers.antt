@@ -14,8 +14,8 @@ use Rattle.rules.specs.Check.{sizeOk}
 use Rattle.rules.specs.Records.{freshRecord}
 use Rattle.rules.specs.Fresh.{tabulate, allWhite}
 use Rattle.rules.specs.Steps.{codeOf, nodeOf}
-use Rattle.rules.specs.Meet.{meet, anyEdge}
-use Rattle.rules.specs.Load.{loadSizeOf, loadSizeOk, badGiven, firstBad, Chained, chained}
+use Rattle.rules.specs.Meet.{meet, anyEdge, firstSide}
+use Rattle.rules.specs.Load.{loadSizeOf, loadSizeOk, badGiven, firstBad, badAt, Chained, chained}
 use Rattle.rules.specs.Load.{chainLength, firstShared, judgeFree, judge, loadBy, load}
 use Rattle.rules.specs.declared.Record.{Record}
 use Rattle.rules.specs.declared.Answer.{Answer}
@@ -45,7 +45,7 @@ load-done m r l g left right colour left′ right′ colour′ a b n free x q h 
 -- 13, or the chain's end
 module _ (m r : ℕ) (es : List (List ℕ)) (free num : List ℕ) (a : Answer) (n : ℕ) (h : codeOf a ≡ 0)
     (q : num ≡ meet m r es .num) (e : n ≡ firstShared m free num) where
-  pub judge-shared : n < m → Refused 13 n ≡ judgeFree m r es (chained free a)
+  pub judge-shared : n < m → Refused 13 n 0 ≡ judgeFree m r es (chained free a)
   unfolding judgeFree
   judge-shared l =
       rw (← q, ← e) (pick-yes _ _ _ _ (eq-yes _ _ h) (pick-yes _ _ _ _ (lt-yes _ _ l) refl))
@@ -66,17 +66,18 @@ judge-passed m r es c a e h =
 -- 1, 11, or what is judged where edges are good
 module _ (m r : ℕ) (given edges : List (List ℕ)) (colours : List ℕ) (o : Outcome) where
   pub load-size : false ≡ loadSizeOk m r given edges colours → o
-      ≡ loadBy m r given edges colours (Refused 1 0) → o ≡ load m r given edges colours
+      ≡ loadBy m r given edges colours (Refused 1 0 0) → o ≡ load m r given edges colours
   unfolding load
   load-size z e = e ∙ ap (loadBy m r given edges colours) (pick-no _ _ _ _ z refl)
 
-  pub load-bad : (n : ℕ) → true ≡ loadSizeOk m r given edges colours → n ≡ firstBad m given → n < m
-      → o ≡ loadBy m r given edges colours (Refused 11 n)
+  pub load-bad : (n side : ℕ) → true ≡ loadSizeOk m r given edges colours → n ≡ firstBad m given
+      → n < m → side ≡ firstSide (badGiven m n) given n
+      → o ≡ loadBy m r given edges colours (Refused 11 n side)
       → o ≡ load m r given edges colours
-  unfolding load judge
-  load-bad n z q l e =
+  unfolding load judge badAt
+  load-bad n side z q l k e =
       e ∙ ap (loadBy m r given edges colours)
-      (pick-yes _ _ _ _ z (rw (← q) (pick-yes _ _ _ _ (lt-yes _ _ l) refl)))
+      (pick-yes _ _ _ _ z (rw (← q, k) (pick-yes _ _ _ _ (lt-yes _ _ l) refl)))
 
   pub load-whole : (n : ℕ) → true ≡ loadSizeOk m r given edges colours → n ≡ firstBad m given
       → m ≤ n → o ≡ loadGood m r given edges colours
@@ -85,6 +86,15 @@ module _ (m r : ℕ) (given edges : List (List ℕ)) (colours : List ℕ) (o : O
   load-whole n z q l e =
       e ∙ ap (loadBy m r given edges colours)
       (pick-yes _ _ _ _ z (rw (← q) (pick-no _ _ _ _ (lt-no _ _ l) refl)))
+
+-- the first bad node has a bad edge
+pub bad-has : (m : ℕ) (given : List (List ℕ)) (n : ℕ) → n ≡ firstBad m given → n < m
+    → true ≡ anyEdge (badGiven m n) given n
+unfolding firstBad
+bad-has m given n q h =
+    let w : Passes (λ n. anyEdge (badGiven m n) given n) 0 m (firstBad m given) =
+    lowest-passes _ m in
+    sym ((rw (sym q) at w) .passes h)
 
 -- what passed sizes tell
 pub record Lengths (m r lefts rights left right colour : ℕ) : Type 0 where

@@ -19,17 +19,17 @@ module _ (r : ℕ) (l g : List ℕ) (m k : ℕ) (free : List ℕ) (n : ℕ) wher
   pub chain-turn : k < m → chain r (l ∷ g ∷ []) (m - k) free n ≡
       pick (eqb (getD g n 0) 0)
       (pick (eqb (getD l n 0) 0) (chained free (Started n))
-      (pick (ltb (getD l n 0) (r + 2)) (chained free (Refused 12 n))
+      (pick (ltb (getD l n 0) (r + 2)) (chained free (Refused 12 n 0))
       (pick (eqb (getD free (getD l n 0) 0) 0)
       (chain r (l ∷ g ∷ []) (m - (k + 1)) (set free (getD l n 0) 1) (getD l n 0))
-      (chained free (Refused 12 n)))))
-      (chained free (Refused 12 n))
+      (chained free (Refused 12 n 0)))))
+      (chained free (Refused 12 n 0))
   unfolding chain edgeOf
   chain-turn h =
       let q : m - k ≡ suc (m - (k + 1)) = omega arith in
       rw q
 
-  pub chain-out : m ≤ k → chained free (Refused 12 n) ≡ chain r (l ∷ g ∷ []) (m - k) free n
+  pub chain-out : m ≤ k → chained free (Refused 12 n 0) ≡ chain r (l ∷ g ∷ []) (m - k) free n
   unfolding chain
   chain-out h =
       let q : m - k ≡ 0 = omega arith in

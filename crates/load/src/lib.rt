@@ -6,8 +6,9 @@ ghost use mathlib.Core.Path.{_≡_};
 ghost use mathlib.Core.List.{List, [], _∷_};
 ghost use Prim.Native.Nat.{ℕ, _+_, _<_, _≤_};
 ghost use lib.ListN.{length, take};
-ghost use Rattle.rules.specs.Table.{mostNodes, mostSlots, handed, refused};
-ghost use Rattle.rules.specs.Meet.{blank, anyEdge};
+ghost use mathlib.Core.Bool.{true};
+ghost use Rattle.rules.specs.Table.{mostNodes, mostSlots, handed, refusedWith, refused};
+ghost use Rattle.rules.specs.Meet.{blank, anyEdge, firstSide};
 ghost use Rattle.rules.specs.Load.{loadSizeOf, badGiven, firstBad, chained, chain};
 ghost use Rattle.rules.specs.Load.{chainLength, isShared, firstShared, judgeFree, loadBy, load};
 ghost use Rattle.rules.specs.Steps.{codeOf};
@@ -84,6 +85,19 @@ fn first_bad(lefts: &[u32], rights: &[u32], m: u32) -> usize
         n += 1;
     }
     n
+}
+
+// The side of the first such edge of node n, which has one.
+fn bad_side(lefts: &[u32], m: u32, n: usize) -> u8
+    requires { ⌜ n < length (now lefts) ⌝ }
+    ensures { λ side. ⌜ ((rights : List ℕ)
+        → true ≡ anyEdge (badGiven m n) (was lefts ∷ rights ∷ []) n
+        → side ≡ firstSide (badGiven m n) (was lefts ∷ rights ∷ []) n) ⌝ }
+{
+    if bad_given(m, n, lefts[n]) {
+        return rules::LEFT;
+    }
+    rules::RIGHT
 }
 
 // The edges given, as 16-bit numbers.
@@ -317,13 +331,14 @@ fn load_good(
 }
 
 // Refused: no table is made.
-fn refused(code: u8, node: u16) -> Made
+fn refused(code: u8, node: u16, detail: u8) -> Made
     requires { ⌜ 0 < code ⌝ }
     ensures { λ d. ⌜ ((m r : ℕ) (given edges : List (List ℕ)) (colours : List ℕ)
-        → handed d edges colours ≡ loadBy m r given edges colours (refused code node)) ⌝ }
+        → handed d edges colours ≡ loadBy m r given edges colours
+        (refusedWith code node detail)) ⌝ }
     ensures { λ d. ⌜ d .changed ≡ 0 ⌝ }
 {
-    rules::refusal(code, node, Record::fresh(0, 0, 0, 0))
+    rules::refusal_with(code, node, detail, Record::fresh(0, 0, 0, 0))
 }
 
 // A table of m nodes and r slots with the edges of two lists, and its record.
@@ -350,11 +365,11 @@ pub fn load(
         right.len(),
         colour.len(),
     ) {
-        return refused(1, 0);
+        return refused(1, 0, 0);
     }
     let n = first_bad(lefts, rights, m as u32);
     if n < m {
-        return refused(11, n as u16);
+        return refused(11, n as u16, bad_side(lefts, m as u32, n));
     }
     load_good(lefts, rights, left, right, colour, m as u16, r as u16)
 }

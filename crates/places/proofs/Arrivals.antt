@@ -6,7 +6,7 @@ use mathlib.Core.List.{List, [], _∷_}
 use lib.Dec.{eqb}
 use Rattle.base.specs.Choice.{pick, first}
 use Rattle.base.proofs.Tests.{split}
-use Rattle.rules.specs.Table.{State, Outcome, state, refuse, NIL, did, shadeIn, shade}
+use Rattle.rules.specs.Table.{State, Outcome, state, refuseWith, refuse, NIL, did, shadeIn, shade}
 use Rattle.rules.specs.Check.{checkOf}
 use Rattle.rules.specs.Places.{placeCode, walkFrom, walk, arrive}
 use Rattle.rules.specs.Editor.{sideCode, owedCode, depart}
@@ -18,7 +18,6 @@ use Rattle.rules.specs.declared.Walk.the-variants.{At, Damaged}
 use Rattle.rules.proofs.Walks.{Below, below}
 use Rattle.places.specs.declared.Source.{Source}
 use Rattle.places.specs.declared.Source.the-variants.{Found, Missing}
-use Rattle.places.specs.Stood.{stood}
 use Rattle.places.specs.Sources.{editCode, sourceOf}
 
 module _ (s : State) (w v : Walk) (go : ℕ → Outcome) (n : ℕ) where
@@ -26,17 +25,17 @@ module _ (s : State) (w v : Walk) (go : ℕ → Outcome) (n : ℕ) where
   unfolding arrive
   arrives z e q h = rw (← e, q) h
 
-  pub stops : (k : ℕ) → v ≡ w → v ≡ Damaged n → k ≡ stood v → refuse s 7 k ≡ arrive s w go
+  pub stops : (side : ℕ) → v ≡ w → v ≡ Damaged n side → refuseWith s 7 n side ≡ arrive s w go
   unfolding arrive
-  stops k e q h = rw (← e, h, q)
+  stops side e q = rw (← e, q)
 
 -- and a walk to a source: v is what it answered
 module _ (s : State) (p : Place) (v : Source) (go : ℕ → Outcome) where
   abbrev leave : Source → Outcome
   leave (Found n) = go n
-  leave (Missing code n) = refuse s code n
+  leave (Missing code n detail) = refuseWith s code n detail
 
-  either : (b : Bool) (n : ℕ) → leave (pick b (Missing 8 0) (Found n))
+  either : (b : Bool) (n : ℕ) → leave (pick b (Missing 8 0 0) (Found n))
       ≡ pick b (refuse s 8 0) (go n)
   unfolding pick
   either true n = refl
@@ -46,27 +45,27 @@ module _ (s : State) (p : Place) (v : Source) (go : ℕ → Outcome) where
       ≡ arrive s w (λ n. pick (eqb n NIL) (refuse s 8 0) (go n))
   unfolding sourceOf arrive
   sources (At n) = either (eqb n NIL) n
-  sources (Damaged n) = refl
+  sources (Damaged n side) = refl
 
   pub departs : (n : ℕ) (z : Outcome) → v ≡ sourceOf (walk s p) → v ≡ Found n → z ≡ go n
       → z ≡ depart s p go
   unfolding depart
   departs n z e q h = h ∙ ap leave (sym q ∙ e) ∙ sources (walk s p)
 
-  pub absent : (code n : ℕ) → v ≡ sourceOf (walk s p) → v ≡ Missing code n
-      → refuse s code n ≡ depart s p go
+  pub absent : (code n detail : ℕ) → v ≡ sourceOf (walk s p) → v ≡ Missing code n detail
+      → refuseWith s code n detail ≡ depart s p go
   unfolding depart
-  absent code n e q = ap leave (sym q ∙ e) ∙ sources (walk s p)
+  absent code n detail e q = ap leave (sym q ∙ e) ∙ sources (walk s p)
 
 -- a source that is found lies in the table
 abbrev Lies : ℕ → Source → Type 0
 Lies m (Found n) = n < m
-Lies m (Missing code n) = Unit {0}
+Lies m (Missing code n detail) = Unit {0}
 
 lies : (m : ℕ) (w : Walk) → Below m w → Lies m (sourceOf w)
 unfolding sourceOf
 lies m (At n) h = split (Lies m) _ _ _ (λ q. tt) (λ q. h)
-lies m (Damaged n) h = tt
+lies m (Damaged n side) h = tt
 
 pub found-below : (b : ℕ) (edges : ℕ → ℕ → ℕ) (m k w n t : ℕ) (v : Source)
     → v ≡ sourceOf (walkFrom b edges m k w n) → v ≡ Found t → n < m → t < m

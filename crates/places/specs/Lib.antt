@@ -1,2 +1,1 @@
-pub mod Stood
 pub mod Sources

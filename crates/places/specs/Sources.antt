@@ -21,7 +21,7 @@ editCode ll rl cl x p side target =
     first (checkOf (ll ∷ rl ∷ []) cl x ∷ sideCode 2 side ∷ placeCode 2 (x .r) p ∷ target ∷ owedCode
     (x .owed) ∷ [])
 
--- where a walk to a source ends; `Missing` has the code and the node of the refusal
+-- where a walk to a source ends; `Missing` has the code, the node and the detail of the refusal
 unfoldable pub sourceOf : Walk → Source
-sourceOf (At n) = pick (eqb n NIL) (Missing 8 0) (Found n)
-sourceOf (Damaged n) = Missing 7 n
+sourceOf (At n) = pick (eqb n NIL) (Missing 8 0 0) (Found n)
+sourceOf (Damaged n side) = Missing 7 n side

@@ -11,14 +11,13 @@ ghost use lib.ListN.{length};
 ghost use Rattle.rules.specs.Table.{mostNodes, edgeOf};
 ghost use Rattle.rules.specs.Places.{turnsOk, placeCode, start, walkFrom};
 ghost use Rattle.rules.specs.Editor.{sideCode, owedCode};
-ghost use Rattle.places.specs.Stood.{stood};
 ghost use Rattle.places.specs.Sources.{editCode, sourceOf};
 ghost use Rattle.base.specs.Lent.{was};
 
-// The source of a step that changes an edge; or the code that refuses it, with a node.
+// The source of a step that changes an edge; or the code that refuses it, with a node and a detail.
 pub enum Source {
     Found(u16),
-    Missing(u8, u16),
+    Missing(u8, u16, u8),
 }
 
 fn turns_ok(p: Place) -> bool
@@ -95,15 +94,6 @@ pub fn edit_code(
     owed_code(owed)
 }
 
-pub fn stood(w: Walk) -> u16
-    ensures { λ n. ⌜ n ≡ stood w ⌝ }
-{
-    match w {
-        Walk::At(n) => n,
-        Walk::Damaged(n) => n,
-    }
-}
-
 // From node start, turn by turn, lowest bit first.
 pub fn walk_from(left: &[u16], right: &[u16], m: u16, start: u16, count: u32, word: u32) -> Walk
     requires { ⌜ start < m ⌝ }
@@ -118,9 +108,10 @@ pub fn walk_from(left: &[u16], right: &[u16], m: u16, start: u16, count: u32, wo
         if n == 0 {
             return Walk::At(0);
         }
-        let e = table::edge(left, right, rest % 2, n);
+        let side = rest % 2;
+        let e = table::edge(left, right, side, n);
         if table::bad_edge(m, e) {
-            return Walk::Damaged(n);
+            return Walk::Damaged(n, side as u8);
         }
         n = e;
         rest = rest / 2;
@@ -151,11 +142,13 @@ pub fn depart(left: &[u16], right: &[u16], m: u16, p: Place) -> Source
         (walkFrom 2 (edgeOf (was left ∷ was right ∷ [])) m (p .count) (p .word) (start p)) ⌝ }
 {
     let from = walk(left, right, m, p);
-    let Walk::At(n) = from else {
-        return Source::Missing(7, stood(from));
-    };
-    if n == 0 {
-        return Source::Missing(8, 0);
+    match from {
+        Walk::At(n) => {
+            if n == 0 {
+                return Source::Missing(8, 0, 0);
+            }
+            Source::Found(n)
+        }
+        Walk::Damaged(n, side) => Source::Missing(7, n, side),
     }
-    Source::Found(n)
 }

@@ -5,7 +5,7 @@ use mathlib.Core.List.{List}
 use Prim.Native.Nat.{ℕ}
 use denote.Ref.{now}
 use Rattle.jenturik_c.specs.Face.{answeredOf, Faced, faced, placeOf}
-use Rattle.jenturik_c.specs.Many.{facedRun, lastOf}
+use Rattle.jenturik_c.specs.Many.{facedRun, codeIn, detailIn, lastOf}
 use Rattle.jenturik_c.proofs.jenturik_fresh.Reads as c-fresh
 use Rattle.jenturik_c.proofs.jenturik_load.Reads as c-load
 use Rattle.jenturik_c.proofs.jenturik_look.Reads as c-look
@@ -101,9 +101,9 @@ c-collect-determined κs a r r′ s s′ p q =
 
 pub c-many-determined : (κs : _) (a : _) (r r′ : _) (s s′ : _)
     → c-many.Learnt κs a r s → c-many.Learnt κs a r′ s′
-    → (facedRun (r .done) (r .code)
+    → (facedRun (r .done) (codeIn (r .code)) (detailIn (r .code))
     (now (s .0)) (now (s .1 .0)) (now (s .1 .1 .0)) (now (s .1 .1 .1 .0))
-    ≡ facedRun (r′ .done) (r′ .code)
+    ≡ facedRun (r′ .done) (codeIn (r′ .code)) (detailIn (r′ .code))
     (now (s′ .0)) (now (s′ .1 .0)) (now (s′ .1 .1 .0)) (now (s′ .1 .1 .1 .0)))
     × (lastOf r ≡ lastOf r′) × (r .changed ≡ r′ .changed)
 c-many-determined κs a r r′ s s′ p q = (
@@ -114,9 +114,9 @@ c-many-determined κs a r r′ s s′ p q = (
 
 pub c-schedule-determined : (κs : _) (a : _) (r r′ : _) (s s′ : _)
     → c-schedule.Learnt κs a r s → c-schedule.Learnt κs a r′ s′
-    → (facedRun (r .done) (r .code)
+    → (facedRun (r .done) (r .code) (r .detail)
     (now (s .0)) (now (s .1 .0)) (now (s .1 .1 .0)) (now (s .1 .1 .1 .0))
-    ≡ facedRun (r′ .done) (r′ .code)
+    ≡ facedRun (r′ .done) (r′ .code) (r′ .detail)
     (now (s′ .0)) (now (s′ .1 .0)) (now (s′ .1 .1 .0)) (now (s′ .1 .1 .1 .0)))
     × (r .changed ≡ r′ .changed)
 c-schedule-determined κs a r r′ s s′ p q =

@@ -89,7 +89,7 @@ appended (Blackened n) = 0
 appended (Whitened n) = 0
 appended (Appended n) = n
 appended (Counted k) = 0
-appended (Refused code n) = 0
+appended (Refused code n detail) = 0
 
 -- the position's i
 pub record Figure : Type 0 where

@@ -9,7 +9,8 @@ use lib.Dec.{ltb, leb, eqb}
 use borrow.Author.Tests.{eqb-true, eqb-false}
 use Rattle.base.proofs.Tests.{each, not-yes}
 use Rattle.base.specs.Choice.{pick, every, first}
-use Rattle.rules.specs.Table.{State, sides, Outcome, state, did, refuse, unless, black, left, right}
+use Rattle.rules.specs.Table.{State, sides, Outcome, state, did, refused, refuse, unless, black}
+use Rattle.rules.specs.Table.{left, right}
 use Rattle.rules.specs.Table.{edgeOf, edge, withEdge, cleared, colourOf, withColour, shadeIn, shade}
 use Rattle.rules.specs.Table.{badEdge}
 use Rattle.rules.specs.Phases.{blackTag, appendTag, tagOf, position, second}
@@ -25,7 +26,7 @@ use Rattle.rules.specs.Editor.{badFree, relink, takeNext, takeFirst, take}
 use Rattle.rules.specs.Collector.{shadeStep, afterRoots, scanStep, edgeStep, blackStep, append}
 use Rattle.rules.specs.Collector.{appendWhite, appendStep, phaseStep, collect}
 use Rattle.rules.specs.Steps.{step, run, source, target, taking, linking, shading, collecting}
-use Rattle.rules.specs.Steps.{codeOf, nodeOf}
+use Rattle.rules.specs.Steps.{looking, codeOf, nodeOf, detailOf}
 use Rattle.rules.specs.Schedules.{collects}
 use Rattle.rules.specs.declared.Record.{Record}
 use Rattle.rules.specs.declared.Place.{Place}
@@ -147,6 +148,19 @@ appendsLast i s = pick (eqb i (s .rec .last))
 abbrev missesLast : Step → State → Outcome
 missesLast = kind 3 (λ a s. inPhase appendTag appendsLast s)
 
+-- a collector that tells every damage as a bad edge [Codes 14] [Codes 15]
+abbrev tellsEdge : Step → State → Outcome
+tellsEdge =
+    kind 3 (λ a s. pick (leb 14 (codeOf (step a s .answer)))
+    (refuse s 7 (nodeOf (step a s .answer))) (step a s))
+
+-- a step that tells no detail [Answers 5]
+abbrev tellsLess : Step → State → Outcome
+tellsLess a s =
+    did (pick (eqb (codeOf (step a s .answer)) 0) (step a s .answer)
+    (refused (codeOf (step a s .answer)) (nodeOf (step a s .answer)))) (step a s .state)
+    (step a s .state .rec)
+
 -- a record test that asks only for what is given
 abbrev asks : (Record → Bool) → Step → State → Outcome
 asks ok = kind 3 (λ a s. pick (ok (s .rec)) (phaseStep s (s .rec .phase)) (step a s))
@@ -214,6 +228,9 @@ elsewhere = record { slot = 9; count = 0; word = 0 }
 abbrev code : Outcome → ℕ
 code o = codeOf (o .answer)
 
+abbrev detail : Outcome → ℕ
+detail o = detailOf (o .answer)
+
 -- which case an answer is
 abbrev deed : Answer → ℕ
 deed (Started n) = 0
@@ -225,7 +242,7 @@ deed (Looked n) = 5
 deed (Blackened n) = 6
 deed (Whitened n) = 7
 deed (Appended n) = 8
-deed (Refused c n) = 9
+deed (Refused c n d) = 9
 deed (Counted k) = 10
 
 abbrev colour : ℕ → Outcome → ℕ
@@ -263,7 +280,10 @@ table =
     row owedEarly (linking (at 0 0) 0 elsewhere) (run (linking (at 0 0) 0 (at 0 0) ∷ []) five) code
     5 3 ∷
     row absentLate (linking (at 1 0) 0 (at 1 1)) (invented (made (Roots 0) Nothing 4 0)) code 7 8 ∷
-    row missesLast collecting (invented (made (Append 4) Nothing 4 0)) code 0 7 ∷
+    row missesLast collecting (invented (made (Append 4) Nothing 4 0)) code 0 15 ∷
+    row tellsEdge collecting (invented (made (Append 4) Nothing 4 0)) code 7 15 ∷
+    row tellsLess collecting (invented (made (Append 4) Nothing 4 0)) detail 0 2 ∷
+    row tellsLess (looking (at 1 1)) (invented (made (Roots 0) Nothing 4 0)) detail 0 1 ∷
     row (asks withoutOwed) collecting (invented (made (Roots 0) (Node 1) 4 0)) code 0 2 ∷
     row (asks withoutLast) collecting (invented (made (Roots 0) Nothing 2 0)) code 0 2 ∷
     row (asks withoutSteps) collecting (invented (made (Roots 0) Nothing 4 53)) code 0 2 ∷

@@ -14,11 +14,11 @@ use Rattle.base.specs.Choice.{every}
 use Rattle.base.proofs.Tests.{eq-yes, eq-no, not-is, every-skip, every-last}
 use Rattle.rules.specs.Table.{NIL, FREE, edgeOf, badEdge}
 use Rattle.rules.specs.Check.{sizeOk}
-use Rattle.rules.specs.Meet.{anyEdge}
+use Rattle.rules.specs.Meet.{anyEdge, firstSide}
 use Rattle.rules.specs.Load.{loadSizeOf, badGiven}
-use Rattle.reach.specs.Judged.{BadNode, GoodEdges}
+use Rattle.reach.specs.Judged.{Lowest, BadSide, BadNode, GoodEdges}
 use Rattle.reach.proofs.Kept.{neither, not-bad}
-use Rattle.reach.proofs.Lowests.{either, any-yes, any-no}
+use Rattle.reach.proofs.Lowests.{either, any-yes, any-no, first-passes}
 
 -- the sizes, as facts
 pub record Sizes (m r : ℕ) (given : List (List ℕ)) : Type 0 where
@@ -98,10 +98,21 @@ module _ {m : ℕ} (es : List (List ℕ)) (n : ℕ) where
   pub bad-yes : n < m → anyEdge (badGiven m n) es n ≡ true → BadNode m es n
   bad-yes l h =
       let w = any-yes (badGiven m n) es n h in
-      (l, w .0, w .1, given-yes m n _ (w .2))
+      (l, (w .0, (w .1, given-yes m n _ (w .2))))
 
   pub bad-no : anyEdge (badGiven m n) es n ≡ false → ¬ BadNode m es n
-  bad-no h b = given-no m n _ (any-no (badGiven m n) es n h (b .1) (b .2)) (b .3)
+  bad-no h b =
+      let e = b .1 .1 in
+      given-no m n _ (any-no (badGiven m n) es n h (b .1 .0) (e .0)) (e .1)
+
+  -- and the first side on which the node has such an edge
+  pub bad-side : anyEdge (badGiven m n) es n ≡ true
+      → Lowest (BadSide m es n) (firstSide (badGiven m n) es n)
+  bad-side h =
+      let w = first-passes (badGiven m n) es n h in (
+        (w .0, given-yes m n _ (w .1 .passes (w .0))),
+        λ side l b. given-no m n _ (w .1 .below side (omega arith) l) (b .1),
+      )
 
 module _ {m r : ℕ} {es : List (List ℕ)} (z : Sizes m r es) where
   -- no node has a bad edge
@@ -129,12 +140,12 @@ module _ {m r : ℕ} {es : List (List ℕ)} (z : Sizes m r es) where
         where
           go : Dec (edgeOf es side n < m) → edgeOf es side n < m
           go (yes b) = b
-          go (no b) = absurd (h n (a .1) (a .1, side, a .0, inl (omega arith)))
+          go (no b) = absurd (h n (a .1) (a .1, (side, (a .0, inl (omega arith)))))
 
       not-free : (side n : ℕ) → ((side < length es) × (n < m)) ⊎ (edgeOf es side n ≡ 0)
           → edgeOf es side n ≢ FREE
       not-free side n (inr q) e = omega arith
-      not-free side n (inl a) e = h n (a .1) (a .1, side, a .0, inr (inl e))
+      not-free side n (inl a) e = h n (a .1) (a .1, (side, (a .0, inr (inl e))))
 
       nil : (side : ℕ) → ((side < length es) × (NIL < m)) ⊎ (edgeOf es side NIL ≡ 0)
           → edgeOf es side NIL ≡ 0
@@ -143,12 +154,12 @@ module _ {m r : ℕ} {es : List (List ℕ)} (z : Sizes m r es) where
         where
           go : Dec (edgeOf es side NIL ≡ 0) → edgeOf es side NIL ≡ 0
           go (yes b) = b
-          go (no b) = absurd (h NIL (a .1) (a .1, side, a .0, inr (inr (refl, b))))
+          go (no b) = absurd (h NIL (a .1) (a .1, (side, (a .0, inr (inr (refl, b))))))
 
 pub good-none : {m : ℕ} {es : List (List ℕ)} → GoodEdges m es → (n : ℕ) → ¬ BadNode m es n
-good-none {m} {es} g n b = go (b .3)
+good-none {m} {es} g n b = go (b .1 .1 .1)
   where
-    go : BadEdge m n (edgeOf es (b .1) n) → ⊥
-    go (inl a) = omega (arith, g .good (b .1) n .0)
-    go (inr (inl a)) = g .good (b .1) n .1 a
-    go (inr (inr a)) = a .1 (rw (a .0) (g .nil (b .1)))
+    go : BadEdge m n (edgeOf es (b .1 .0) n) → ⊥
+    go (inl a) = omega (arith, g .good (b .1 .0) n .0)
+    go (inr (inl a)) = g .good (b .1 .0) n .1 a
+    go (inr (inr a)) = a .1 (rw (a .0) (g .nil (b .1 .0)))

@@ -4,7 +4,7 @@
 use Prim.Native.Nat.{ℕ, _+_, _-_, _≤_, _<_}
 use mathlib.Core.Bool.{Bool, true, false, true≢false, not}
 use mathlib.Core.List.{List, [], _∷_}
-use mathlib.Core.Path.{_≡_, refl, sym, ap, _∙_}
+use mathlib.Core.Path.{_≡_, refl, sym, ap, ap₂, _∙_}
 use mathlib.Core.Logic.{_≢_, _⊎_, inl, inr}
 use native.Mathlib.Decide.{ℕ-discrete, decLt}
 use native.Mathlib.Omega.{arith}
@@ -15,8 +15,8 @@ use Rattle.base.specs.Choice.{every}
 use Rattle.base.proofs.Tests.{eq-yes, eq-no, pick-yes, pick-no, each, facts, split}
 use Rattle.rules.specs.Table.{State, NIL, FREE, edgeOf, badEdge}
 use Rattle.rules.specs.Check.{sizeOk, checkOf, check}
-use Rattle.rules.specs.Meet.{Met, numOf, meet}
-use Rattle.rules.specs.InUse.{isHurt, firstHurt, countMet, inUse}
+use Rattle.rules.specs.Meet.{Met, numOf, meet, firstSide}
+use Rattle.rules.specs.InUse.{isHurt, firstHurt, hurtAt, countMet, inUse}
 use Rattle.rules.specs.declared.Answer.{Answer}
 use Rattle.rules.specs.declared.Answer.the-variants.{Counted, Refused}
 use Rattle.rules.proofs.Checked.{passes}
@@ -24,13 +24,14 @@ use Rattle.theory.specs.Reach.{Reach, Slot}
 use Rattle.theory.proofs.Reaches.{reach-on, reach-back}
 use Rattle.reach.specs.Numbered.{goodEdge, GoodReaches, nonzero, Numbered}
 use Rattle.reach.specs.Judged.{Lowest}
-use Rattle.reach.specs.Counted.{Number, readEdge, InUse, BadEdges, Hurt, HurtNode, Counts}
-use Rattle.reach.specs.Counted.{bad-size, bad-record, damaged, counted, In-use-counts}
+use Rattle.reach.specs.Counted.{Number, readEdge, InUse, BadEdge, BadEdges, Hurt, HurtNode}
+use Rattle.reach.specs.Counted.{Counts, bad-size, bad-record, damaged, counted, In-use-counts}
 use Rattle.reach.specs.Counted.{In-use-reached}
 use Rattle.reach.proofs.Counts.{nonzero-split, nonzero-all, number-from, number-once}
 use Rattle.reach.proofs.Kept.{not-bad}
 use Rattle.reach.proofs.Meets.{meet-numbers}
 use Rattle.reach.proofs.Lowests.{Passes, lowest-passes, either, any-yes, any-no}
+use Rattle.reach.proofs.Lowests.{first-passes}
 use Rattle.reach.proofs.Given.{every-two}
 use Rattle.reach.proofs.Judges.{lowest-once, at-good}
 
@@ -64,7 +65,7 @@ module _ (m : ℕ) (es : List (List ℕ)) (num : List ℕ) (n : ℕ) where
   hurt-yes h =
       let w = every-two _ _ h in
       let e = any-yes (badEdge m) es n (every-two _ _ (w .1) .0) in
-      (some _ (w .0), (e .0, e .1, is-bad m _ (e .2)))
+      (some _ (w .0), (e .0, (e .1, is-bad m _ (e .2))))
     where
       some : (x : ℕ) → not (eqb x 0) ≡ true → x ≢ 0
       some x e q = true≢false (sym e ∙ ap not (sym (eq-yes x 0 q)))
@@ -74,7 +75,16 @@ module _ (m : ℕ) (es : List (List ℕ)) (num : List ℕ) (n : ℕ) where
   hurt-no h ne b =
       none-bad m _
       (any-no (badEdge m) es n (second _ _ (ap not (sym (eq-no (getD num n 0) 0 ne))) h) (b .0)
-      (b .1)) (b .2)
+      (b .1 .0)) (b .1 .1)
+
+  -- and the first side on which the node has such an edge
+  hurt-side : isHurt m es num n ≡ true → Lowest (BadEdge m es n) (firstSide (badEdge m) es n)
+  unfolding isHurt
+  hurt-side h =
+      let w = first-passes (badEdge m) es n (every-two _ _ (every-two _ _ h .1) .0) in (
+        (w .0, is-bad m _ (w .1 .passes (w .0))),
+        λ side l b. none-bad m _ (w .1 .below side (omega arith) l) (b .1),
+      )
 
 module _ (m r : ℕ) (es : List (List ℕ)) (room : r + 2 ≤ m) (few : m ≤ 4096) where
   abbrev z : Met
@@ -98,6 +108,10 @@ module _ (m r : ℕ) (es : List (List ℕ)) (room : r + 2 ≤ m) (few : m ≤ 40
       let low = num .kept .inside _ (k .0) in
       ((omega (arith, low), h, num .sound _ (k .0), k .1), below)
 
+  hit-side : firstHurt m es (z .num) < m → Lowest (BadEdge m es (firstHurt m es (z .num)))
+      (firstSide (badEdge m) es (firstHurt m es (z .num)))
+  hit-side h = hurt-side m es (z .num) (firstHurt m es (z .num)) (hurt-found .passes h)
+
   none-hurt : m ≤ firstHurt m es (z .num) → (n : ℕ) → ¬ Hurt m r es n
   none-hurt h n u = below n (omega (arith, u .1)) u
 
@@ -111,7 +125,7 @@ module _ (m r : ℕ) (es : List (List ℕ)) (room : r + 2 ≤ m) (few : m ≤ 40
         fine : p ≢ NIL → ¬ Bad m (edgeOf es side p)
         fine ne b =
             let i = num .kept .inside p (num .complete p ne x) in
-            none p (ne, i .1, x, (side, l, b))
+            none p (ne, i .1, x, (side, (l, b)))
 
         inside : ¬ Bad m (edgeOf es side p) → Dec (edgeOf es side p < m) → edgeOf es side p < m
         inside h (yes a) = a
@@ -167,10 +181,11 @@ checked-sizes s q =
 
 counts-met : (s : State) → check s ≡ 0 → Counts s
     (countMet (s .rec .m) (s .rec .r) (s .edges) (meet (s .rec .m) (s .rec .r) (s .edges)))
-unfolding countMet
+unfolding countMet hurtAt
 counts-met s q =
     split (Counts s) _ _ _
-    (λ b. damaged q (hit m r (s .edges) (k .0) (k .1) (ltb-true _ _ b)))
+    (λ b. damaged q (hit m r (s .edges) (k .0) (k .1) (ltb-true _ _ b))
+    (hit-side m r (s .edges) (k .0) (k .1) (ltb-true _ _ b)))
     (λ b. let none = none-hurt m r (s .edges) (k .0) (k .1) (ltb-false _ _ b) in
     counted q none (number m r (s .edges) (k .0) (k .1) none))
   where
@@ -190,7 +205,7 @@ in-use-counted s =
     (λ q. go (eqb-false _ _ q) (check-is s))
   where
     go : check s ≢ 0 → (check s ≡ 0) ⊎ (check s ≡ 1) ⊎ (check s ≡ 2)
-        → Counts s (Refused (check s) 0)
+        → Counts s (Refused (check s) 0 0)
     go ne (inl q) = absurd (ne q)
     go ne (inr (inl q)) = rw q (bad-size q)
     go ne (inr (inr q)) = rw q (bad-record q)
@@ -199,20 +214,22 @@ in-use-counted s =
 counts-once : {s : State} {a b : Answer} → Counts s a → Counts s b → a ≡ b
 counts-once (bad-size p) (bad-size q) = refl
 counts-once (bad-size p) (bad-record q) = absurd (omega arith)
-counts-once (bad-size p) (damaged q l) = absurd (omega arith)
+counts-once (bad-size p) (damaged q l d) = absurd (omega arith)
 counts-once (bad-size p) (counted q n k) = absurd (omega arith)
 counts-once (bad-record p) (bad-size q) = absurd (omega arith)
 counts-once (bad-record p) (bad-record q) = refl
-counts-once (bad-record p) (damaged q l) = absurd (omega arith)
+counts-once (bad-record p) (damaged q l d) = absurd (omega arith)
 counts-once (bad-record p) (counted q n k) = absurd (omega arith)
-counts-once (damaged p l) (bad-size q) = absurd (omega arith)
-counts-once (damaged p l) (bad-record q) = absurd (omega arith)
-counts-once {s} (damaged {n = n} p l) (damaged {n = k} q h) =
-    ap (Refused 7) (lowest-once (HurtNode s) n k l h)
-counts-once (damaged {n = n} p l) (counted q h k) = absurd (h n (l .0))
+counts-once (damaged p l d) (bad-size q) = absurd (omega arith)
+counts-once (damaged p l d) (bad-record q) = absurd (omega arith)
+counts-once {s} (damaged {n = n} {side = i} p l d) (damaged {n = k} {side = j} q h e) =
+    let same = lowest-once (HurtNode s) n k l h in
+    ap₂ (Refused 7) same
+    (lowest-once (BadEdge (s .rec .m) (s .edges) n) i j d (rw (sym same) at e))
+counts-once (damaged {n = n} p l d) (counted q h k) = absurd (h n (l .0))
 counts-once (counted p h j) (bad-size q) = absurd (omega arith)
 counts-once (counted p h j) (bad-record q) = absurd (omega arith)
-counts-once (counted p h j) (damaged {n = n} q l) = absurd (h n (l .0))
+counts-once (counted p h j) (damaged {n = n} q l d) = absurd (h n (l .0))
 counts-once (counted p h j) (counted q g k) = ap Counted (number-once j k)
 
 pub in-use-counts : In-use-counts

@@ -3,7 +3,7 @@
 use Prim.Native.Nat.{ℕ, _+_, _-_, _≤_, _<_}
 use mathlib.Core.Bool.{true, false, true≢false, false≢true, not}
 use mathlib.Core.List.{List, [], _∷_, map}
-use mathlib.Core.Path.{_≡_, refl, sym, ap, _∙_}
+use mathlib.Core.Path.{_≡_, refl, sym, ap, ap₂, _∙_}
 use mathlib.Core.Logic.{_≢_, inl, inr}
 use native.Mathlib.Decide.{decLt}
 use native.Mathlib.Omega.{arith}
@@ -16,21 +16,23 @@ use Rattle.rules.specs.Table.{Outcome, table, FREE, edgeOf, badEdge}
 use Rattle.rules.specs.Records.{freshRecord}
 use Rattle.rules.specs.Fresh.{tabulate, allWhite}
 use Rattle.rules.specs.Meet.{numOf, blank, meet, anyEdge}
-use Rattle.rules.specs.Load.{loadSizeOk, badGiven, firstBad, Chained, chain, isShared, firstShared}
-use Rattle.rules.specs.Load.{judgeFree, judge, chainLength, loadBy, load}
+use Rattle.rules.specs.Load.{loadSizeOk, badGiven, firstBad, badAt, Chained, chain, isShared}
+use Rattle.rules.specs.Load.{firstShared, judgeFree, judge, chainLength, loadBy, load}
 use Rattle.rules.specs.declared.Answer.{Answer}
 use Rattle.rules.specs.declared.Answer.the-variants.{Started, Refused}
 use Rattle.theory.specs.Free.{Mem, lastOf}
 use Rattle.theory.proofs.Reaches.{reach-on}
 use Rattle.theory.proofs.Chains.{chain-unique, chain-inside, distinct-few}
 use Rattle.reach.specs.Numbered.{good, goodEdge, GoodReaches, Numbered}
-use Rattle.reach.specs.Judged.{SlotReaches, Lowest, BadNode, GoodEdges, first, FreeChain}
+use Rattle.reach.specs.Judged.{SlotReaches, Lowest, BadSide, BadNode, GoodEdges, first}
+use Rattle.reach.specs.Judged.{FreeChain}
 use Rattle.reach.specs.Judged.{Judged, bad-size, bad-edge, bad-chain, shared, accepted}
 use Rattle.reach.specs.Judged.{Load-judges, Load-leaves}
 use Rattle.reach.proofs.Counts.{nonzero-le}
 use Rattle.reach.proofs.Meets.{blank-at, blank-length, meet-numbers}
 use Rattle.reach.proofs.Lowests.{Passes, lowest-passes}
-use Rattle.reach.proofs.Given.{Sizes, sizes, every-two, bad-yes, bad-no, all-good, good-none}
+use Rattle.reach.proofs.Given.{Sizes, sizes, every-two, bad-yes, bad-no, bad-side, all-good}
+use Rattle.reach.proofs.Given.{good-none}
 use Rattle.reach.proofs.Chains.{Ends, Found, found, breaks-once, ends-whole, free-ends}
 use Rattle.reach.proofs.Walks.{Agrees, Says, ends, breaks, walks, turns-along}
 
@@ -112,7 +114,7 @@ module _ (m r : ℕ) (given edges : List (List ℕ)) (colours : List ℕ)
     numbered t a x = num .complete t (omega (arith, low t a)) (to-good g r x)
 
     judged-free : Says-so (pick (ltb (firstShared m free (meet m r given .num)) m)
-        (Refused 13 (firstShared m free (meet m r given .num))) (Started n))
+        (Refused 13 (firstShared m free (meet m r given .num)) 0) (Started n))
     unfolding firstShared
     judged-free = split Says-so _ _ _ (λ b. hit (ltb-true _ _ b)) (λ b. none (ltb-false _ _ b))
       where
@@ -125,7 +127,7 @@ module _ (m r : ℕ) (given edges : List (List ℕ)) (colours : List ℕ)
         below t h a x = shared-no _ _ _ (w .below t (omega arith) h) (marked t a) (numbered t a x)
 
         hit : firstShared m free (meet m r given .num) < m
-            → Says-so (Refused 13 (firstShared m free (meet m r given .num)))
+            → Says-so (Refused 13 (firstShared m free (meet m r given .num)) 0)
         hit h =
             let k = shared-yes _ _ _ (w .passes h) in
             let a = v .mark _ (k .0) in
@@ -153,19 +155,19 @@ module _ (m r : ℕ) (given edges : List (List ℕ)) (colours : List ℕ)
       (λ q. bad-chain ok g c b)
 
   judged : Says-so (judge m r given)
-  unfolding judge firstBad
+  unfolding judge firstBad badAt
   judged = split Says-so _ _ _ (λ b. hit (ltb-true _ _ b)) (λ b. none (ltb-false _ _ b))
     where
       w : Passes (λ n. anyEdge (badGiven m n) given n) 0 m (firstBad m given)
       w = lowest-passes _ m
 
-      hit : firstBad m given < m → Says-so (Refused 11 (firstBad m given))
+      hit : firstBad m given < m → Says-so (badAt m given (firstBad m given))
       hit h =
           bad-edge ok (
             bad-yes given _ h (w .passes h),
             λ t l. bad-no given t
                 (w .below t (omega arith) l),
-          )
+          ) (bad-side given _ (w .passes h))
 
       none : m ≤ firstBad m given → Says-so (judgeFree m r given (chain r given m blank FREE))
       none h =
@@ -190,7 +192,7 @@ pub load-judged : (m r : ℕ) (given edges : List (List ℕ)) (colours : List �
 unfolding load
 load-judged m r given edges colours =
     rw (load-answer m r given edges colours
-    (pick (loadSizeOk m r given edges colours) (judge m r given) (Refused 1 0)))
+    (pick (loadSizeOk m r given edges colours) (judge m r given) (Refused 1 0 0)))
     (split (Judged m r given edges colours) _ _ _ (λ q. judged m r given edges colours q)
     (λ q. bad-size q))
 
@@ -209,31 +211,33 @@ module _ (m r : ℕ) (given edges : List (List ℕ)) (colours : List ℕ) where
 
   judged-once : {a b : Answer} → J a → J b → a ≡ b
   judged-once (bad-size p) (bad-size q) = refl
-  judged-once (bad-size p) (bad-edge q b) = no-both p q
+  judged-once (bad-size p) (bad-edge q b d) = no-both p q
   judged-once (bad-size p) (bad-chain q g c b) = no-both p q
   judged-once (bad-size p) (shared q g c l) = no-both p q
   judged-once (bad-size p) (accepted q a) = no-both p q
-  judged-once (bad-edge p a) (bad-size q) = no-both q p
-  judged-once (bad-edge {n = n} p a) (bad-edge {n = k} q b) = ap (Refused 11)
-      (lowest-once (BadNode m given) n k a b)
-  judged-once (bad-edge {n = n} p a) (bad-chain q g c b) = absurd (good-none g n (a .0))
-  judged-once (bad-edge {n = n} p a) (shared q g c l) = absurd (good-none g n (a .0))
-  judged-once (bad-edge {n = n} p a) (accepted q b) = absurd (good-none (b .edges) n (a .0))
+  judged-once (bad-edge p a d) (bad-size q) = no-both q p
+  judged-once (bad-edge {n = n} {side = i} p a d) (bad-edge {n = k} {side = j} q b e) =
+      let same = lowest-once (BadNode m given) n k a b in
+      ap₂ (Refused 11) same (lowest-once (BadSide m given n) i j d (rw (sym same) at e))
+  judged-once (bad-edge {n = n} p a d) (bad-chain q g c b) = absurd (good-none g n (a .0))
+  judged-once (bad-edge {n = n} p a d) (shared q g c l) = absurd (good-none g n (a .0))
+  judged-once (bad-edge {n = n} p a d) (accepted q b) = absurd (good-none (b .edges) n (a .0))
   judged-once (bad-chain p g c b) (bad-size q) = no-both q p
-  judged-once (bad-chain p g c b) (bad-edge {n = n} q a) = absurd (good-none g n (a .0))
-  judged-once (bad-chain p g c b) (bad-chain q h d e) = ap (Refused 12) (breaks-once c b d e)
+  judged-once (bad-chain p g c b) (bad-edge {n = n} q a d) = absurd (good-none g n (a .0))
+  judged-once (bad-chain p g c b) (bad-chain q h d e) =
+      ap (λ (i : ℕ). Refused 12 i 0) (breaks-once c b d e)
   judged-once (bad-chain p g c b) (shared q h d l) = absurd (ends-whole (free-ends d) c b)
   judged-once (bad-chain p g c b) (accepted q a) = absurd (ends-whole (free-ends (a .chain)) c b)
   judged-once (shared p g c l) (bad-size q) = no-both q p
-  judged-once (shared p g c l) (bad-edge {n = n} q a) = absurd (good-none g n (a .0))
+  judged-once (shared p g c l) (bad-edge {n = n} q a d) = absurd (good-none g n (a .0))
   judged-once (shared p g c l) (bad-chain q h d e) = absurd (ends-whole (free-ends c) d e)
   judged-once (shared {n = n} {fs = fs} p g c l) (shared {n = k} q h d e) =
-      ap (Refused 13) (lowest-once (λ n. Mem n fs × SlotReaches r given n) n k l
+      ap (λ (i : ℕ). Refused 13 i 0) (lowest-once (λ n. Mem n fs × SlotReaches r given n) n k l
       (rw (free-once d c) at e))
   judged-once (shared {n = n} p g c l) (accepted q a) = absurd
       (a .away n (rw (free-once c (a .chain)) at (l .0 .0)) (l .0 .1))
   judged-once (accepted p a) (bad-size q) = no-both q p
-  judged-once (accepted p a) (bad-edge {n = n} q b) = absurd (good-none (a .edges) n (b .0))
+  judged-once (accepted p a) (bad-edge {n = n} q b d) = absurd (good-none (a .edges) n (b .0))
   judged-once (accepted p a) (bad-chain q g c b) = absurd (ends-whole (free-ends (a .chain)) c b)
   judged-once (accepted p a) (shared {n = n} q g c l) = absurd
       (a .away n (rw (free-once c (a .chain)) at (l .0 .0)) (l .0 .1))
@@ -247,17 +251,17 @@ load-judges m r given edges colours a = record {
 }
 
 -- a refusal's code is not 0
-some-code : {m r : ℕ} {given edges : List (List ℕ)} {colours : List ℕ} {code n : ℕ}
-    → Judged m r given edges colours (Refused code n) → code ≢ 0
+some-code : {m r : ℕ} {given edges : List (List ℕ)} {colours : List ℕ} {code n detail : ℕ}
+    → Judged m r given edges colours (Refused code n detail) → code ≢ 0
 some-code (bad-size p) q = omega arith
-some-code (bad-edge p a) q = omega arith
+some-code (bad-edge p a d) q = omega arith
 some-code (bad-chain p g c b) q = omega arith
 some-code (shared p g c l) q = omega arith
 
 module _ (m r : ℕ) (given edges : List (List ℕ)) (colours : List ℕ) where
   -- what is judged, and what Load answers
   judged-answer : load m r given edges colours .answer
-      ≡ pick (loadSizeOk m r given edges colours) (judge m r given) (Refused 1 0)
+      ≡ pick (loadSizeOk m r given edges colours) (judge m r given) (Refused 1 0 0)
   unfolding load
   judged-answer = load-answer m r given edges colours _
 
@@ -269,10 +273,11 @@ module _ (m r : ℕ) (given edges : List (List ℕ)) (colours : List ℕ) where
       ≡ table given (tabulate allWhite m) (freshRecord m r last (chainLength given m FREE))) _
       _ _ (λ q. refl) (λ q. absurd (true≢false q))
 
-  left-refused : (code n : ℕ) → code ≢ 0 → loadBy m r given edges colours (Refused code n) .state
+  left-refused : (code n detail : ℕ) → code ≢ 0
+      → loadBy m r given edges colours (Refused code n detail) .state
       ≡ table edges colours (freshRecord 0 0 0 0)
   unfolding loadBy
-  left-refused code n h =
+  left-refused code n detail h =
       split (λ (o : Outcome). o .state ≡ table edges colours (freshRecord 0 0 0 0)) _ _ _
       (λ q. absurd (h (eqb-true _ _ q))) (λ q. refl)
 
@@ -302,7 +307,7 @@ load-leaves m r given edges colours = record {
       left-by m r given edges colours (Started last) q ∙ left-done m r given edges colours last
       ∙ ap (λ (n : ℕ). table given (tabulate allWhite m) (freshRecord m r last n))
       (free-many g c);
-  refused = λ code n q. left-by m r given edges colours (Refused code n) q
-      ∙ left-refused m r given edges colours code n
-      (some-code (load-judges m r given edges colours (Refused code n) .only q));
+  refused = λ code n detail q. left-by m r given edges colours (Refused code n detail) q
+      ∙ left-refused m r given edges colours code n detail
+      (some-code (load-judges m r given edges colours (Refused code n detail) .only q));
 }

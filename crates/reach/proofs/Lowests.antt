@@ -1,15 +1,15 @@
 -- The lowest number that passes a test, and an edge that does.
 use Prim.Native.Nat.{ℕ, zero, suc, _+_, _-_, _≤_, _<_}
-use mathlib.Core.Bool.{Bool, true, false, false≢true, _||_}
+use mathlib.Core.Bool.{Bool, true, false, true≢false, false≢true, _||_}
 use mathlib.Core.List.{List, [], _∷_}
-use mathlib.Core.Path.{_≡_, refl, sym}
+use mathlib.Core.Path.{_≡_, refl, sym, _∙_}
 use mathlib.Core.Logic.{_⊎_, inl, inr}
-use native.Mathlib.Decide.{ℕ-discrete}
+use native.Mathlib.Decide.{ℕ-discrete, decLt}
 use native.Mathlib.Omega.{arith}
 use lib.ListN.{length, getD}
 use Rattle.base.proofs.Tests.{pick-yes, pick-no, split}
 use Rattle.rules.specs.Table.{edgeOf}
-use Rattle.rules.specs.Meet.{lowest, anyEdge}
+use Rattle.rules.specs.Meet.{lowest, anyEdge, firstSide}
 use Rattle.reach.proofs.Kept.{neither}
 
 -- x is the lowest from b to below e that passes, and e where none does
@@ -102,6 +102,38 @@ any-yes f (row ∷ rows) n h = go (either (f (getD row n 0)) (anyEdge f rows n) 
     go (inr a) rec =
         let w = rec a in
         (suc (w .0), omega (arith, w .1), w .2)
+
+-- then the first side whose edge passes is one
+pub first-passes : (f : ℕ → Bool) (es : List (List ℕ)) (n : ℕ) → anyEdge f es n ≡ true
+    → (firstSide f es n < length es)
+    × Passes (λ side. f (edgeOf es side n)) 0 (length es) (firstSide f es n)
+unfolding firstSide
+first-passes f es n h = (go (decLt (firstSide f es n) (length es)), w)
+  where
+    w : Passes (λ side. f (edgeOf es side n)) 0 (length es) (firstSide f es n)
+    w = lowest-passes _ (length es)
+
+    go : Dec (firstSide f es n < length es) → firstSide f es n < length es
+    go (yes l) = l
+    go (no l) =
+        let k = any-yes f es n h in
+        absurd (true≢false (sym (k .2) ∙ w .below (k .0) (omega arith) (omega (arith, k .1))))
+
+-- of two edges: the left one, where it passes, and else the right one
+module _ (f : ℕ → Bool) (l r : List ℕ) (n : ℕ) where
+  pub first-left : true ≡ f (getD l n 0) → 0 ≡ firstSide f (l ∷ r ∷ []) n
+  unfolding firstSide lowest edgeOf
+  first-left h = pick-yes _ _ _ _ h refl
+
+  other : (a b : Bool) → false ≡ a → true ≡ a || (b || false) → true ≡ b
+  other true b h k = absurd (false≢true h)
+  other false true h k = refl
+  other false false h k = k
+
+  pub first-right : false ≡ f (getD l n 0) → true ≡ anyEdge f (l ∷ r ∷ []) n
+      → 1 ≡ firstSide f (l ∷ r ∷ []) n
+  unfolding firstSide lowest edgeOf anyEdge
+  first-right h k = pick-no _ _ _ _ h (pick-yes _ _ _ _ (other _ _ h k) refl)
 
 pub any-no : (f : ℕ → Bool) (es : List (List ℕ)) (n : ℕ) → anyEdge f es n ≡ false → (side : ℕ)
     → side < length es → f (edgeOf es side n) ≡ false

@@ -30,7 +30,7 @@ pub data Says (r : ℕ) (es : List (List ℕ)) : Chained → Type 0 where
   ends : {free : List ℕ} {n : ℕ} (d : Ends r es n) → Agrees free n (d .passed)
       → Says r es (chained free (Started n))
   breaks : {free ps : List ℕ} {n : ℕ} → Comes r es ps n → Breaks r es ps n
-      → Says r es (chained free (Refused 12 n))
+      → Says r es (chained free (Refused 12 n 0))
 
 agrees-next : {free ps : List ℕ} {n t : ℕ} → t < length free → t ≢ FREE → Agrees free n ps
     → Agrees (set free t 1) t (n ∷ ps)

@@ -29,10 +29,13 @@ readEdge es side n = pick (eqb n NIL) NIL (edgeOf es side n)
 abbrev pub InUse : ℕ → List (List ℕ) → ℕ → Type 0
 InUse r es n = (r + 2 ≤ n) × Reach (length es) (Slot (r + 2)) (readEdge es) n
 
--- [Damage 1] an edge of node n is bad
+-- [Damage 1] the edge of node n on a side is bad
+abbrev pub BadEdge : ℕ → List (List ℕ) → ℕ → ℕ → Type 0
+BadEdge m es n side = (side < length es) × ((m ≤ edgeOf es side n) ⊎ (edgeOf es side n ≡ FREE))
+
+-- one of its edges is
 abbrev pub BadEdges : ℕ → List (List ℕ) → ℕ → Type 0
-BadEdges m es n =
-    (side : ℕ) × (side < length es) × ((m ≤ edgeOf es side n) ⊎ (edgeOf es side n ≡ FREE))
+BadEdges m es n = (side : ℕ) × BadEdge m es n side
 
 -- [In use 2] slots reach node n, which is not NIL, along good edges, and one of its edges is bad
 abbrev pub Hurt : ℕ → ℕ → List (List ℕ) → ℕ → Type 0
@@ -47,9 +50,10 @@ module _ (s : State) where
   NodeInUse = InUse (s .rec .r) (s .edges)
 
   pub data Counts : Answer → Type 0 where
-    bad-size : check s ≡ 1 → Counts (Refused 1 0)
-    bad-record : check s ≡ 2 → Counts (Refused 2 0)
-    damaged : {n : ℕ} → check s ≡ 0 → Lowest HurtNode n → Counts (Refused 7 n)
+    bad-size : check s ≡ 1 → Counts (Refused 1 0 0)
+    bad-record : check s ≡ 2 → Counts (Refused 2 0 0)
+    damaged : {n side : ℕ} → check s ≡ 0 → Lowest HurtNode n
+        → Lowest (BadEdge (s .rec .m) (s .edges) n) side → Counts (Refused 7 n side)
     counted : {k : ℕ} → check s ≡ 0 → ((n : ℕ) → ¬ HurtNode n)
         → Number NodeInUse (s .rec .m) k → Counts (Counted k)
 

@@ -24,12 +24,16 @@ SlotReaches r es n = Reach (length es) (Slot (r + 2)) (edgeOf es) n
 abbrev pub Lowest : (ℕ → Type 0) → ℕ → Type 0
 Lowest P n = P n × ((k : ℕ) → k < n → ¬ P k)
 
--- [Codes 11] a node that has a bad edge [Damage 1], or is NIL and has an edge that is not 0
-abbrev pub BadNode : ℕ → List (List ℕ) → ℕ → Type 0
-BadNode m es n =
-    (n < m) × (side : ℕ) × (side < length es)
+-- [Codes 11] the edge of node n on a side is bad [Damage 1], or is NIL's and not 0
+abbrev pub BadSide : ℕ → List (List ℕ) → ℕ → ℕ → Type 0
+BadSide m es n side =
+    (side < length es)
     × ((m ≤ edgeOf es side n) ⊎ (edgeOf es side n ≡ FREE)
     ⊎ ((n ≡ NIL) × (edgeOf es side n ≢ 0)))
+
+-- [Codes 11] a node that has such an edge
+abbrev pub BadNode : ℕ → List (List ℕ) → ℕ → Type 0
+BadNode m es n = (n < m) × ((side : ℕ) × BadSide m es n side)
 
 -- [Load 8] edges are good, and NIL's are 0
 pub record GoodEdges (m : ℕ) (es : List (List ℕ)) : Type 0 where
@@ -77,12 +81,13 @@ module _ (m r : ℕ) (given edges : List (List ℕ)) (colours : List ℕ) where
   Sized = loadSizeOk m r given edges colours ≡ true
 
   pub data Judged : Answer → Type 0 where
-    bad-size : loadSizeOk m r given edges colours ≡ false → Judged (Refused 1 0)
-    bad-edge : {n : ℕ} → Sized → Lowest (BadNode m given) n → Judged (Refused 11 n)
+    bad-size : loadSizeOk m r given edges colours ≡ false → Judged (Refused 1 0 0)
+    bad-edge : {n side : ℕ} → Sized → Lowest (BadNode m given) n
+        → Lowest (BadSide m given n) side → Judged (Refused 11 n side)
     bad-chain : {n : ℕ} {ps : List ℕ} → Sized → GoodEdges m given → Comes r given ps n
-        → Breaks r given ps n → Judged (Refused 12 n)
+        → Breaks r given ps n → Judged (Refused 12 n 0)
     shared : {n : ℕ} {fs : List ℕ} → Sized → GoodEdges m given → FreeChain r given fs
-        → Lowest (λ n. Mem n fs × SlotReaches r given n) n → Judged (Refused 13 n)
+        → Lowest (λ n. Mem n fs × SlotReaches r given n) n → Judged (Refused 13 n 0)
     accepted : {last : ℕ} → Sized → Accepted m r given last → Judged (Started last)
 
 abbrev pub Load-judges : Type 0
@@ -96,7 +101,7 @@ pub record Leaves (m r : ℕ) (given edges : List (List ℕ)) (colours : List �
   pub done : (last : ℕ) → load m r given edges colours .answer ≡ Started last → (fs : List ℕ)
       → FreeChain r given fs → load m r given edges colours .state
       ≡ table given (tabulate allWhite m) (freshRecord m r last (length fs))
-  pub refused : (code n : ℕ) → load m r given edges colours .answer ≡ Refused code n
+  pub refused : (code n detail : ℕ) → load m r given edges colours .answer ≡ Refused code n detail
       → load m r given edges colours .state ≡ table edges colours (freshRecord 0 0 0 0)
 
 abbrev pub Load-leaves : Type 0

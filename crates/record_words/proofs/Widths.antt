@@ -11,6 +11,7 @@ use Rattle.base.specs.Choice.{every}
 use Rattle.base.proofs.Tests.{each, every-here, every-skip, every-last, eq-yes, le-yes, le-no}
 use Rattle.base.proofs.Tests.{called, not-yes, not-no, pick-no, tests}
 use Rattle.rules.specs.declared.Record.{Record}
+use Rattle.rules.specs.Phases.{mostTag}
 use Rattle.rules.proofs.Phases.{no-second}
 use Rattle.rules.specs.declared.Owed.{Owed}
 use Rattle.rules.specs.declared.Owed.the-variants.{Nothing, Node}
@@ -80,7 +81,7 @@ four-hold top a b c d h =
 -- the words' widths in the order in which they are tested
 abbrev Tested : List ℕ → Type 0
 Tested w =
-    (word w PHASE ≤ 5) × (word w OWES ≤ 1) × (word w FREECOUNT ≤ 65535)
+    (word w PHASE ≤ mostTag) × (word w OWES ≤ 1) × (word w FREECOUNT ≤ 65535)
     × AtMost 65535 (word w I) (word w K) (word w OWED) (word w LAST)
     × AtMost 65535 (word w NODES) (word w SLOTS) (word w BLACKENED) (word w LASTBLACKENED)
     × AtMost 4294967295 (word w STEPS) (word w CYCLES) (word w TOOK) 0

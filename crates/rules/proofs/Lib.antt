@@ -8,3 +8,4 @@ pub mod Refused
 pub mod Changes
 pub mod Sums
 pub mod Rows
+pub mod Damage

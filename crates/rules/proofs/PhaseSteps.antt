@@ -2,11 +2,11 @@
 -- these holds of every collector step, so only this file goes through the phases.
 use Prim.Native.Nat.{ℕ, _+_, _-_, _≤_, _<_}
 use mathlib.Core.Path.{_≡_, refl, sym, _∙_}
-use mathlib.Core.Bool.{Bool, true, false, true≢false, _||_}
+use mathlib.Core.Bool.{Bool, true, false, true≢false}
 use mathlib.Core.List.{[], _∷_}
 use native.Mathlib.Omega.{arith}
 use native.Mathlib.Nat.{mod-lt}
-use lib.Dec.{ltb, leb, eqb}
+use lib.Dec.{ltb, leb}
 use borrow.Author.Tests.{leb-false, eqb-true, eqb-false}
 use Rattle.base.specs.Choice.{pick, every}
 use Rattle.base.proofs.Tests.{split, le-yes, lt-yes, eq-no, pick-no, every-skip, every-last}
@@ -80,19 +80,15 @@ pub record Covers (s : State) (P : Outcome → Type 0) : Type 0 where
   pub appends : (i : ℕ) → s .rec .r + 1 < i → i < s .rec .m
       → P (did (Appended i) (append s i) (afterAppend (moreFree (withLast (s .rec) i)) i))
 
-or-no : (a b : Bool) → a || b ≡ false → a ≡ false
-or-no true b e = e
-or-no false b e = refl
-
 module _ {s : State} {P : Outcome → Type 0} (w : Covers s P) (low : 3 ≤ s .rec .m) where
   shading : (n : ℕ) (p : Phase) → true ≡ phaseOk (s .rec .m) (s .rec .r) p → P (shadeStep s n p)
   unfolding shadeStep
   shading n p h = split P _ _ _ (λ e. w .stays _) (λ e. w .shades n p h)
 
-  edging : (i n : ℕ) (p : Phase) → true ≡ phaseOk (s .rec .m) (s .rec .r) p
-      → P (edgeStep s i n p)
+  edging : (i side n : ℕ) (p : Phase) → true ≡ phaseOk (s .rec .m) (s .rec .r) p
+      → P (edgeStep s i side n p)
   unfolding edgeStep
-  edging i n p h = split P _ _ _ (λ e. w .stays _) (λ e. shading n p h)
+  edging i side n p h = split P _ _ _ (λ e. w .stays _) (λ e. shading n p h)
 
   after-roots : (i : ℕ) → i ≤ s .rec .r + 1
       → true ≡ phaseOk (s .rec .m) (s .rec .r) (afterRoots (s .rec .m) (s .rec .r) i)
@@ -119,16 +115,16 @@ module _ {s : State} {P : Outcome → Type 0} (w : Covers s P) (low : 3 ≤ s .r
       split P _ _ _ (λ e. w .whitens i h) (λ e.
       split P _ _ _ (λ e.
       split P _ _ _ (λ e. w .stays _) (λ e.
-      let q = leb-false i (s .rec .r + 1) (or-no _ (eqb i (s .rec .last)) e) in
-      w .appends i (omega arith) h))
-      (λ e. w .stays _))
+      let q = leb-false i (s .rec .r + 1) e in
+      split P _ _ _ (λ e. w .stays _) (λ e. w .appends i (omega arith) h)))
+      (λ e. split P _ _ _ (λ e. w .stays _) (λ e. w .stays _)))
 
   comes : (p : Phase) → InRange (s .rec .m) (s .rec .r) p → P (phaseStep s p)
   unfolding phaseStep blackStep
   comes (Roots i) h = shading i _ (after-roots i (h .0))
   comes (Scan i k) h = scanning i k (h .0) (h .1) (h .2)
-  comes (Left i) h = edging i _ _ (node-ok _ _ (Right i) (omega arith) refl (h .0))
-  comes (Right i) h = edging i _ _ (node-ok _ _ (Black i) (omega arith) refl (h .0))
+  comes (Left i) h = edging i _ _ _ (node-ok _ _ (Right i) (omega arith) refl (h .0))
+  comes (Right i) h = edging i _ _ _ (node-ok _ _ (Black i) (omega arith) refl (h .0))
   comes (Black i) h = w .blackens i (h .0)
   comes (Append i) h = appending i (h .0)
 

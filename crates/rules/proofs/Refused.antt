@@ -38,7 +38,7 @@ module _ (s : State) where
   arrives : (w : Walk) (go : ℕ → Outcome) → ((n : ℕ) → Stays (go n)) → Stays (arrive s w go)
   unfolding arrive
   arrives (At n) go p = p n
-  arrives (Damaged n) go p = refused
+  arrives (Damaged n side) go p = refused
 
   pays : (owed : Owed) → Stays (pay s owed)
   unfolding pay

@@ -110,7 +110,7 @@ module _ (s : State) (n : ℕ) (some : 1 ≤ n) where
   arrives : (w : Walk) (go : ℕ → Outcome) → ((i : ℕ) → Few (go i)) → Few (arrive s w go)
   unfolding arrive
   arrives (At i) go p = p i
-  arrives (Damaged i) go p = none
+  arrives (Damaged i side) go p = none
 
   pays : (owed : Owed) → Few (pay s owed)
   unfolding pay

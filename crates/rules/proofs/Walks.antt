@@ -35,7 +35,7 @@ module _ (b : ℕ) (edges : ℕ → ℕ → ℕ) (m : ℕ) where
   -- one turn
   pub turn : (k w n : ℕ) → 0 < k
       → walkFrom b edges m k w n ≡ pick (eqb n 0) (At 0)
-      (pick (badEdge m (edges (w % b) n)) (Damaged n)
+      (pick (badEdge m (edges (w % b) n)) (Damaged n (w % b))
       (walkFrom b edges m (k - 1) (w / b) (edges (w % b) n)))
   unfolding walkFrom
   turn zero w n h = absurd (omega arith)
@@ -48,7 +48,7 @@ module _ (b : ℕ) (edges : ℕ → ℕ → ℕ) (m : ℕ) where
 
 abbrev pub Below : ℕ → Walk → Type 0
 Below m (At n) = n < m
-Below m (Damaged n) = n < m
+Below m (Damaged n side) = n < m
 
 pub below : (b : ℕ) (edges : ℕ → ℕ → ℕ) (m k w n : ℕ) → n < m → Below m (walkFrom b edges m k w n)
 unfolding walkFrom

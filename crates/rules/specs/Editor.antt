@@ -7,8 +7,8 @@ use Prim.Native.Nat.{ℕ, _+_}
 use mathlib.Core.Bool.{Bool, _||_}
 use mathlib.Core.List.{[], _∷_}
 use lib.Dec.{ltb, leb, eqb}
-use Rattle.rules.specs.Table.{State, sides, Outcome, did, refuse, unless, NIL, FREE, left}
-use Rattle.rules.specs.Table.{edge, withEdge, shade, badColour}
+use Rattle.rules.specs.Table.{State, sides, Outcome, did, refuseWith, refuse, unless}
+use Rattle.rules.specs.Table.{NIL, FREE, left, edge, withEdge, shade, badColour}
 use Rattle.rules.specs.Records.{owing, paid, withLast, lessFree}
 use Rattle.rules.specs.Check.{check}
 use Rattle.rules.specs.Places.{placeCode, walk, arrive}
@@ -56,7 +56,7 @@ link p side q s =
 unfoldable pub pay : State → Owed → Outcome
 pay s Nothing = refuse s 6 0
 pay s (Node n) =
-    pick (badColour s n) (refuse s 7 n) (did (Shaded n) (shade s n) (paid (s .rec)))
+    pick (badColour s n) (refuse s 14 n) (did (Shaded n) (shade s n) (paid (s .rec)))
 
 -- [Shade 3] a step of its own, after Link's
 unfoldable pub shadeOwed : State → Outcome
@@ -80,16 +80,16 @@ relink s n side f g =
 -- free. [Take 6] The record is else as it was; [Take 7] f is answered.
 unfoldable pub takeNext : State → ℕ → ℕ → ℕ → ℕ → Outcome
 takeNext s n side f g =
-    pick (badFree (s .rec .m) (s .rec .r) g) (refuse s 7 f)
-    (pick (badColour s f) (refuse s 7 f)
+    pick (badFree (s .rec .m) (s .rec .r) g) (refuseWith s 7 f left)
+    (pick (badColour s f) (refuse s 14 f)
     (pick (eqb g 0) (did (Taken f) (relink s n side f g) (withLast (lessFree (s .rec)) FREE))
-    (pick (badColour s g) (refuse s 7 g)
+    (pick (badColour s g) (refuse s 14 g)
     (did (Taken f) (shade (relink s n side f g) g) (lessFree (s .rec))))))
 
 -- [Take 1] f is the first free node: [Codes 9] there is one; g is the next
 unfoldable pub takeFirst : State → ℕ → ℕ → ℕ → Outcome
 takeFirst s side f n =
-    pick (badFree (s .rec .m) (s .rec .r) f) (refuse s 7 FREE)
+    pick (badFree (s .rec .m) (s .rec .r) f) (refuseWith s 7 FREE left)
     (pick (eqb f 0) (refuse s 9 0)
     (takeNext s n side f (edge s left f)))
 

@@ -15,3 +15,4 @@ pub mod InUse
 pub mod FreeCount
 pub mod Facts
 pub mod Lent
+pub mod Damage

@@ -5,13 +5,13 @@ use mathlib.Core.Bool.{Bool, _||_, not}
 use mathlib.Core.List.{List, [], _∷_, map}
 use lib.ListN.{length, getD, set}
 use lib.Dec.{ltb, eqb}
-use Rattle.rules.specs.Table.{Outcome, table, refused, NIL, FREE, left, right, edgeOf}
-use Rattle.rules.specs.Table.{badEdge}
+use Rattle.rules.specs.Table.{Outcome, table, refusedWith, refused, NIL, FREE, left, right}
+use Rattle.rules.specs.Table.{edgeOf, badEdge}
 use Rattle.rules.specs.Check.{sizeOk}
 use Rattle.rules.specs.Records.{freshRecord}
 use Rattle.rules.specs.Fresh.{tabulate, allWhite}
 use Rattle.rules.specs.Steps.{codeOf, nodeOf}
-use Rattle.rules.specs.Meet.{blank, meet, lowest, anyEdge}
+use Rattle.rules.specs.Meet.{blank, meet, lowest, anyEdge, firstSide}
 use Rattle.rules.specs.declared.Answer.{Answer}
 use Rattle.rules.specs.declared.Answer.the-variants.{Started}
 
@@ -31,6 +31,10 @@ badGiven m n e = badEdge m e || every (eqb n NIL ∷ not (eqb e 0) ∷ [])
 -- [Codes 11] the lowest node that has such an edge; m where none has
 unfoldable pub firstBad : ℕ → List (List ℕ) → ℕ
 firstBad m es = lowest (λ n. anyEdge (badGiven m n) es n) m 0
+
+-- [Codes 11] the refusal of node n, with the first side on which it has such an edge
+unfoldable pub badAt : ℕ → List (List ℕ) → ℕ → Answer
+badAt m es n = refusedWith 11 n (firstSide (badGiven m n) es n)
 
 -- what a walk along the free chain found: 1 for each free node that it came to, and Started with
 -- the chain's end or Refused with the node that breaks the chain
@@ -81,7 +85,7 @@ judgeFree m r es c =
 -- [Load 7] 11, then 12, then 13; [Load 4] accepted, last is answered
 unfoldable pub judge : ℕ → ℕ → List (List ℕ) → Answer
 judge m r es =
-    pick (ltb (firstBad m es) m) (refused 11 (firstBad m es))
+    pick (ltb (firstBad m es) m) (badAt m es (firstBad m es))
     (judgeFree m r es (chain r es m blank FREE))
 
 -- [Load 1] [Load 2] the table that is made, [Load 3] its record; [Load 11] or none is made

@@ -4,9 +4,9 @@ use Rattle.base.specs.Choice.{pick}
 use Prim.Native.Nat.{ℕ, zero, suc, _+_, _-_}
 use mathlib.Core.Bool.{Bool, false, _||_}
 use mathlib.Core.List.{List, [], _∷_}
-use lib.ListN.{getD, set, replicate}
+use lib.ListN.{length, getD, set, replicate}
 use lib.Dec.{ltb, eqb}
-use Rattle.rules.specs.Table.{mostNodes, NIL, badEdge}
+use Rattle.rules.specs.Table.{mostNodes, NIL, edgeOf, badEdge}
 
 -- Numbers begin at 2, as those of the slots' nodes do: these keep their own.
 pub record Met : Type 0 where
@@ -68,3 +68,7 @@ lowest f (suc k) n = pick (f n) n (lowest f k (n + 1))
 unfoldable pub anyEdge : (ℕ → Bool) → List (List ℕ) → ℕ → Bool
 anyEdge f [] n = false
 anyEdge f (row ∷ rows) n = f (getD row n 0) || anyEdge f rows n
+
+-- the lowest side on which the edge of node n passes a test; the number of sides where none does
+unfoldable pub firstSide : (ℕ → Bool) → List (List ℕ) → ℕ → ℕ
+firstSide f es n = lowest (λ side. f (edgeOf es side n)) (length es) 0

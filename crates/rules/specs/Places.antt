@@ -4,7 +4,7 @@ use Prim.Native.Nat.{ℕ, zero, suc, _+_, _/_, _%_, _^_}
 use mathlib.Core.Bool.{Bool, true}
 use mathlib.Core.List.{[], _∷_}
 use lib.Dec.{ltb, leb, eqb}
-use Rattle.rules.specs.Table.{State, sides, Outcome, refuse, edge, badEdge, NIL}
+use Rattle.rules.specs.Table.{State, sides, Outcome, refuseWith, edge, badEdge, NIL}
 use Rattle.rules.specs.declared.Place.{Place}
 use Rattle.rules.specs.declared.Walk.{Walk}
 use Rattle.rules.specs.declared.Walk.the-variants.{At, Damaged}
@@ -40,12 +40,12 @@ abbrev pub start : Place → ℕ
 start p = p .slot + 2
 
 -- [Places 4] an edge for each turn, the lowest bit first; [Places 5] at NIL the walk ends;
--- [Places 7] nothing else is read. `Damaged` has the node whose edge is bad.
+-- [Places 7] nothing else is read. `Damaged` has the node whose edge is bad, and the side.
 unfoldable pub walkFrom : ℕ → (ℕ → ℕ → ℕ) → ℕ → ℕ → ℕ → ℕ → Walk
 walkFrom b edges m zero word n = At n
 walkFrom b edges m (suc turns) word n =
     pick (eqb n NIL) (At NIL)
-    (pick (badEdge m (edges (word % b) n)) (Damaged n)
+    (pick (badEdge m (edges (word % b) n)) (Damaged n (word % b))
     (walkFrom b edges m turns (word / b) (edges (word % b) n)))
 
 abbrev pub walk : State → Place → Walk
@@ -54,4 +54,4 @@ walk s p = walkFrom (base (sides s)) (edge s) (s .rec .m) (p .count) (p .word) (
 -- [Places 6] a bad edge on the way is the step's own refusal
 unfoldable pub arrive : State → Walk → (ℕ → Outcome) → Outcome
 arrive s (At n) go = go n
-arrive s (Damaged n) go = refuse s 7 n
+arrive s (Damaged n side) go = refuseWith s 7 n side

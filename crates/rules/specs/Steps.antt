@@ -84,7 +84,7 @@ codeOf (Blackened n) = 0
 codeOf (Whitened n) = 0
 codeOf (Appended n) = 0
 codeOf (Counted k) = 0
-codeOf (Refused code n) = code
+codeOf (Refused code n detail) = code
 
 -- [Answers 2] and the node, or the number of nodes counted
 abbrev pub nodeOf : Answer → ℕ
@@ -98,4 +98,18 @@ nodeOf (Blackened n) = n
 nodeOf (Whitened n) = n
 nodeOf (Appended n) = n
 nodeOf (Counted k) = k
-nodeOf (Refused code n) = n
+nodeOf (Refused code n detail) = n
+
+-- [Answers 5] and the detail, 0 where the call was done
+abbrev pub detailOf : Answer → ℕ
+detailOf (Started n) = 0
+detailOf (Named n) = 0
+detailOf (Linked n) = 0
+detailOf (Taken n) = 0
+detailOf (Shaded n) = 0
+detailOf (Looked n) = 0
+detailOf (Blackened n) = 0
+detailOf (Whitened n) = 0
+detailOf (Appended n) = 0
+detailOf (Counted k) = 0
+detailOf (Refused code n detail) = detail

@@ -52,17 +52,28 @@ outcome d l r c = handed d (l ∷ r ∷ []) c
 abbrev pub did : Answer → State → Record → Outcome
 did a s x = record { answer = a; state = table (s .edges) (s .colour) x }
 
--- [Answers 3] who refuses answers a code and a node
-abbrev pub refused : ℕ → ℕ → Answer
-refused code node = Refused code node
+-- [Answers 3] who refuses answers a code, a node and a detail [Answers 5]
+abbrev pub refusedWith : ℕ → ℕ → ℕ → Answer
+refusedWith code node detail = Refused code node detail
 
 -- [Answers 4] a refusal: what a function hands back that refuses; the record stays
-abbrev pub refusal : ℕ → ℕ → Record → Made
-refusal code node x = record { answer = refused code node; changed = 0; rec = x }
+abbrev pub refusalWith : ℕ → ℕ → ℕ → Record → Made
+refusalWith code node detail x =
+    record { answer = refusedWith code node detail; changed = 0; rec = x }
 
 -- [Answers 4] refused: the state stays
+abbrev pub refuseWith : State → ℕ → ℕ → ℕ → Outcome
+refuseWith s code node detail = record { answer = refusedWith code node detail; state = s }
+
+-- [Answers 5] the same where there is no more to tell: the detail is 0
+abbrev pub refused : ℕ → ℕ → Answer
+refused code node = refusedWith code node 0
+
+abbrev pub refusal : ℕ → ℕ → Record → Made
+refusal code node x = refusalWith code node 0 x
+
 abbrev pub refuse : State → ℕ → ℕ → Outcome
-refuse s code node = record { answer = refused code node; state = s }
+refuse s code node = refuseWith s code node 0
 
 -- [Order 5] refused with node 0, unless the code is 0
 unfoldable pub unless : ℕ → State → Outcome → Outcome
@@ -96,6 +107,16 @@ left = 0
 
 abbrev pub right : ℕ
 right = 1
+
+-- [Codes 15] why Append should not meet a node, as numbers
+abbrev pub grayNode : ℕ
+grayNode = 0
+
+abbrev pub whiteRoot : ℕ
+whiteRoot = 1
+
+abbrev pub whiteLast : ℕ
+whiteLast = 2
 
 -- [Table 3] the edge of node n on a side; 0 on a side that the table has not
 unfoldable pub edgeOf : List (List ℕ) → ℕ → ℕ → ℕ

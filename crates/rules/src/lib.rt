@@ -4,7 +4,8 @@
 ghost use mathlib.Core.Path.{_≡_};
 ghost use mathlib.Core.List.{[], _∷_};
 ghost use Prim.Native.Nat.{_+_, _*_, _<_, _≤_};
-ghost use Rattle.rules.specs.Table.{mostNodes, mostSlots, refusal, refused};
+ghost use Rattle.rules.specs.Table.{mostNodes, mostSlots, refusedWith, refused};
+ghost use Rattle.rules.specs.Table.{refusalWith, refusal};
 ghost use Rattle.rules.specs.Facts.{manySteps};
 ghost use Rattle.rules.specs.Phases.{tagOf, position, second, hasSecond, phaseOf};
 ghost use Rattle.rules.specs.Records.{freshRecord, withPhase, withOwed, withLast};
@@ -12,7 +13,7 @@ ghost use Rattle.rules.specs.Records.{lessFree, moreFree, owing, paid, m
 ghost use Rattle.rules.specs.Records.{oneMore, closed, afterAppend};
 ghost use Rattle.rules.specs.Check.{sizeOk, phaseOk, owedOk, lastOk, freeOk, bound, cycleOk};
 ghost use Rattle.rules.specs.Check.{toldOk, countsOk, recordOk, checkOf};
-ghost use Rattle.rules.specs.Steps.{codeOf, nodeOf};
+ghost use Rattle.rules.specs.Steps.{codeOf, nodeOf, detailOf};
 
 // [Table 1] The most nodes that a table has, and the most slots.
 pub const MOST_NODES: usize = 4096;
@@ -21,6 +22,18 @@ pub const MOST_SLOTS: usize = 64;
 
 // [Places 2] The most turns of a place.
 pub const MOST_TURNS: u32 = 12;
+
+// [Table 12] The sides, as details of a refusal.
+pub const LEFT: u8 = 0;
+
+pub const RIGHT: u8 = 1;
+
+// [Codes 15] Why Append should not meet a node.
+pub const GRAY_NODE: u8 = 0;
+
+pub const WHITE_ROOT: u8 = 1;
+
+pub const WHITE_LAST: u8 = 2;
 
 // [Record 7] The count of cycles goes no further.
 const MOST_CYCLES: u32 = 4294967295;
@@ -72,7 +85,7 @@ pub struct Record {
 }
 
 // What a call did and to which node, or how many nodes it counted, or the code that refuses it,
-// with a node.
+// with a node and a detail.
 pub enum Answer {
     Started(u16),
     Named(u16),
@@ -84,7 +97,7 @@ pub enum Answer {
     Whitened(u16),
     Appended(u16),
     Counted(u16),
-    Refused(u8, u16),
+    Refused(u8, u16, u8),
 }
 
 // What every call hands back; `changed` is the number of colours that it changed.
@@ -107,10 +120,10 @@ pub struct Place {
     pub word: u32,
 }
 
-// Where a walk ends, or the node whose edge is bad.
+// Where a walk ends, or the node whose edge is bad and the side of that edge.
 pub enum Walk {
     At(u16),
-    Damaged(u16),
+    Damaged(u16, u8),
 }
 
 // A step as a kind and seven numbers: 0 take, 1 link, 2 shade, 3 collect, 4 look.
@@ -125,11 +138,12 @@ pub struct Step {
     pub toword: u32,
 }
 
-// What a run of steps hands back: how many were done, the code that ended it or 0, how many colours
-// they changed in all, and the record.
+// What a run of steps hands back: how many were done, the code that ended it or 0, with its detail,
+// how many colours they changed in all, and the record.
 pub struct Ran {
     pub done: usize,
     pub code: u8,
+    pub detail: u8,
     pub changed: usize,
     pub rec: Record,
 }
@@ -386,14 +400,21 @@ fn one_more(n: u32) -> u32
 }
 
 // [Answers 4] What a call that is refused hands back: the record stays.
-pub fn refusal(code: u8, node: u16, x: Record) -> Made
-    ensures { λ r. ⌜ r ≡ refusal code node x ⌝ }
+pub fn refusal_with(code: u8, node: u16, detail: u8, x: Record) -> Made
+    ensures { λ r. ⌜ r ≡ refusalWith code node detail x ⌝ }
 {
     Made {
-        answer: Answer::refused(code, node),
+        answer: Answer::refused_with(code, node, detail),
         changed: 0,
         rec: x,
     }
+}
+
+// The same where there is no more to tell.
+pub fn refusal(code: u8, node: u16, x: Record) -> Made
+    ensures { λ r. ⌜ r ≡ refusal code node x ⌝ }
+{
+    refusal_with(code, node, 0, x)
 }
 
 impl Record {
@@ -548,11 +569,18 @@ impl Record {
 
 // The one place where a refusal is made.
 impl Answer {
-    // [Answers 3] Refused with a code, and a node.
+    // [Answers 3] Refused with a code, a node and a detail [Answers 5].
+    pub fn refused_with(code: u8, node: u16, detail: u8) -> Answer
+        ensures { λ a. ⌜ a ≡ refusedWith code node detail ⌝ }
+    {
+        Answer::Refused(code, node, detail)
+    }
+
+    // The same where there is no more to tell.
     pub fn refused(code: u8, node: u16) -> Answer
         ensures { λ a. ⌜ a ≡ refused code node ⌝ }
     {
-        Answer::Refused(code, node)
+        Answer::refused_with(code, node, 0)
     }
 
     // [Answers 2] The code: 0 where done.
@@ -570,7 +598,7 @@ impl Answer {
             Answer::Whitened(_) => 0,
             Answer::Appended(_) => 0,
             Answer::Counted(_) => 0,
-            Answer::Refused(code, _) => code,
+            Answer::Refused(code, _, _) => code,
         }
     }
 
@@ -589,7 +617,26 @@ impl Answer {
             | Answer::Whitened(n)
             | Answer::Appended(n)
             | Answer::Counted(n)
-            | Answer::Refused(_, n) => n,
+            | Answer::Refused(_, n, _) => n,
+        }
+    }
+
+    // [Answers 5] The detail: 0 where done.
+    pub fn detail(self) -> u8
+        ensures { λ d. ⌜ d ≡ detailOf self ⌝ }
+    {
+        match self {
+            Answer::Started(_) => 0,
+            Answer::Named(_) => 0,
+            Answer::Linked(_) => 0,
+            Answer::Taken(_) => 0,
+            Answer::Shaded(_) => 0,
+            Answer::Looked(_) => 0,
+            Answer::Blackened(_) => 0,
+            Answer::Whitened(_) => 0,
+            Answer::Appended(_) => 0,
+            Answer::Counted(_) => 0,
+            Answer::Refused(_, _, detail) => detail,
         }
     }
 }

@@ -50,7 +50,7 @@ is-appended x (Blackened n) q = absurd (other≢appends q)
 is-appended x (Whitened n) q = absurd (other≢appends q)
 is-appended x (Appended n) q = let z : n ≡ x = cc in ap Appended z
 is-appended x (Counted k) q = absurd (other≢appends q)
-is-appended x (Refused code n) q = absurd (other≢appends q)
+is-appended x (Refused code n detail) q = absurd (other≢appends q)
 
 some-appended : {x : ℕ} {cs : List Step} {s : State}
     → Some after (λ c s. act (step c s .answer) ≡ appends x) cs s → Appends x cs s

@@ -139,7 +139,7 @@ module _ {E : ℕ} {s : State} (g : Sound E s) where
 
   -- no edge is bad
   none-hurt : (x : ℕ) → ¬ HurtNode s x
-  none-hurt x h = go (h .3 .2)
+  none-hurt x h = go (h .3 .1 .1)
     where
       go : (s .rec .m ≤ edge s (h .3 .0) x) ⊎ (edge s (h .3 .0) x ≡ FREE) → ⊥
       go (inl q) = omega (arith, g .inv .shape .bound (h .3 .0) x)
@@ -157,7 +157,7 @@ module _ {E : ℕ} {s : State} (g : Sound E s) where
       go : {a : Answer} → Counts s a → (k : ℕ) × (a ≡ Counted k) × Number (Used s) (s .rec .m) k
       go (bad-size q) = absurd (omega (arith, good))
       go (bad-record q) = absurd (omega (arith, good))
-      go (damaged {n = n} q l) = absurd (none-hurt n (l .0))
+      go (damaged {n = n} q l d) = absurd (none-hurt n (l .0))
       go (counted q h v) = (
         _,
         refl,

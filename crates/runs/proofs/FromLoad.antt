@@ -131,6 +131,6 @@ load-carried {E} m r given edges colours few q h =
         rw (load-leaves m r given edges colours .done last e (a .free) (a .chain))
         (load-starts few q (sizes m r given (map length edges) (length colours) p) a)
     go _ e (bad-size p) h = absurd (omega arith)
-    go _ e (bad-edge p b) h = absurd (omega arith)
+    go _ e (bad-edge p b d) h = absurd (omega arith)
     go _ e (bad-chain p g c b) h = absurd (omega arith)
     go _ e (shared p g c l) h = absurd (omega arith)

@@ -21,7 +21,7 @@ pub record Shades (E : ℕ) (ph : Phase) (i j : ℕ) : Type 0 where
   pub next : kind E then ≡ S.Working i (suc j)
   pub below : j < E
   pub test : (m r : ℕ) → i < m → true ≡ phaseOk m r ph
-  pub step : (s : State) → phaseStep s ph ≡ edgeStep s i (edge s j i) then
+  pub step : (s : State) → phaseStep s ph ≡ edgeStep s i j (edge s j i) then
 
 pub data View (E : ℕ) : Phase → Type 0 where
   rooting : (i : ℕ) → View E (Roots i)

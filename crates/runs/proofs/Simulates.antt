@@ -33,7 +33,7 @@ act (Blackened n) = other
 act (Whitened n) = other
 act (Appended n) = appends n
 act (Counted k) = other
-act (Refused code n) = other
+act (Refused code n detail) = other
 
 -- the node that an editor's answer names
 abbrev pub named : Answer → Option ℕ
@@ -47,7 +47,7 @@ named (Blackened n) = none
 named (Whitened n) = none
 named (Appended n) = none
 named (Counted k) = none
-named (Refused code n) = none
+named (Refused code n detail) = none
 
 -- what a record counts
 abbrev pub counts : Record → Count

@@ -1,6 +1,6 @@
 -- The loop of `schedule`: what holds at its test, that a turn keeps it and comes nearer to the end,
 -- and what it says once the loop is left.
-use mathlib.Core.Path.{_≡_, refl, sym, ap, _∙_, subst}
+use mathlib.Core.Path.{_≡_, refl, sym, ap, ap₂, _∙_, subst}
 use mathlib.Core.Bool.{Bool}
 use mathlib.Core.List.{List, _∷_}
 use mathlib.Core.Logic.{_⊎_, inl, inr}
@@ -15,7 +15,7 @@ use Rattle.base.specs.Choice.{pick}
 use Rattle.base.proofs.Tests.{split}
 use Rattle.rules.specs.Table.{State, Outcome, state, outcome}
 use Rattle.rules.specs.Check.{check}
-use Rattle.rules.specs.Steps.{step, codeOf}
+use Rattle.rules.specs.Steps.{step, codeOf, detailOf}
 use Rattle.rules.specs.Schedules.{Followed, followed, follow, schedule}
 use Rattle.rules.specs.Changes.{changes, changesAll}
 use Rattle.rules.specs.declared.Record.{Record}
@@ -54,27 +54,28 @@ module _ (xs : List Step) (last : Followed) (sum : ℕ) where
   -- code
   abbrev pub Inv : Going → State → Type 0
   Inv g s =
-      ((g .code ≡ 0) × (g .end ≡ length xs) × (last ≡ follow (drop (g .at) xs) (g .at) s) ×
+      ((g .code ≡ 0) × (g .detail ≡ 0) × (g .end ≡ length xs) ×
+      (last ≡ follow (drop (g .at) xs) (g .at) s) ×
       (sum ≡ g .changed + changesAll (drop (g .at) xs) s)) ⊎
-      ((g .end ≡ g .at) × (last ≡ followed (g .at) (g .code) s) × (sum ≡ g .changed))
+      ((g .end ≡ g .at) × (last ≡ followed (g .at) (g .code) (g .detail) s) × (sum ≡ g .changed))
 
   pub counted : (g : Going) (s : State) → Inv g s → g .changed ≤ sum
-  counted g s (inl p) = omega (arith, p .3)
+  counted g s (inl p) = omega (arith, p .4)
   counted g s (inr p) = omega (arith, p .2)
 
   pub inside : (g : Going) (s : State) → Inv g s → g .at < g .end → g .at < length xs
-  inside g s (inl p) lt = omega (arith, p .1, lt)
+  inside g s (inl p) lt = omega (arith, p .2, lt)
   inside g s (inr p) lt = absurd (omega (arith, p .0, lt))
 
   pub leaves : (g : Going) (s : State) → Inv g s → g .end ≤ g .at
-      → (last ≡ followed (g .at) (g .code) s) × (sum ≡ g .changed)
+      → (last ≡ followed (g .at) (g .code) (g .detail) s) × (sum ≡ g .changed)
   unfolding follow changesAll
   leaves g s (inl p) le =
-      let none = drop-of-length-le xs {i = g .at} (omega (arith, p .1, le)) in
+      let none = drop-of-length-le xs {i = g .at} (omega (arith, p .2, le)) in
       let left = ap (λ (ys : List Step). changesAll ys s) none in (
-        p .2 ∙ ap (λ (ys : List Step). follow ys (g .at) s) none
-            ∙ ap (λ (n : ℕ). followed (g .at) n s) (sym (p .0)),
-        omega (arith, p .3, left),
+        p .3 ∙ ap (λ (ys : List Step). follow ys (g .at) s) none
+            ∙ ap₂ (λ (n d : ℕ). followed (g .at) n d s) (sym (p .0)) (sym (p .1)),
+        omega (arith, p .4, left),
       )
   leaves g s (inr p) le = (p .1, p .2)
 
@@ -91,12 +92,12 @@ module _ (xs : List Step) (last : Followed) (sum : ℕ) where
       let cons =
       drop-cons xs (g .at) b (inside g s (inl p) lt)
       ∙ ap (λ (n : ℕ). a ∷ drop n xs) (sym (add-one (g .at))) in
-      let summed = p .3 ∙ ap (λ (ys : List Step). g .changed + changesAll ys s) cons in
+      let summed = p .4 ∙ ap (λ (ys : List Step). g .changed + changesAll ys s) cons in
       let first =
-      p .2 ∙ ap (λ (ys : List Step). follow ys (g .at) s) cons
+      p .3 ∙ ap (λ (ys : List Step). follow ys (g .at) s) cons
       ∙ ap (λ (o : Outcome). pick (eqb (codeOf (o .answer)) 0)
       (follow (drop (g .at + 1) xs) (g .at + 1) (o .state))
-      (followed (g .at) (codeOf (o .answer)) s)) (sym e) in
+      (followed (g .at) (codeOf (o .answer)) (detailOf (o .answer)) s)) (sym e) in
       let stays =
       subst (λ (o : Outcome). (codeOf (o .answer) ≡ 0 → ⊥) → o .state ≡ s) (sym e)
       (refused-stays s a) in
@@ -105,11 +106,12 @@ module _ (xs : List Step) (last : Followed) (sum : ℕ) where
       subst Kept (sym h)
       (split Kept (eqb (codeOf (d .answer)) 0)
       (going (g .at + 1) (g .end) (g .changed + d .changed) (d .rec))
-      (ended (g .at) (codeOf (d .answer)) (g .changed) (d .rec))
+      (ended (g .at) (codeOf (d .answer)) (detailOf (d .answer)) (g .changed) (d .rec))
       (λ t. (
         inl (
           refl,
-          p .1,
+          refl,
+          p .2,
           picked _ _ _ _ _ first t,
           omega (arith, summed, sum-step a rest s d l r c e k (eqb-true _ _ t)),
         ),
@@ -119,7 +121,8 @@ module _ (xs : List Step) (last : Followed) (sum : ℕ) where
         inr (
           refl,
           picked _ _ _ _ _ first t
-              ∙ ap (followed (g .at) (codeOf (d .answer))) (sym (stays (eqb-false _ _ t))),
+              ∙ ap (followed (g .at) (codeOf (d .answer)) (detailOf (d .answer)))
+              (sym (stays (eqb-false _ _ t))),
           omega (arith, summed, sum-stop a rest s d l r c e (eqb-false _ _ t)),
         ),
         omega
@@ -134,11 +137,11 @@ pub begins : (xs : List Step) (l r c : List ℕ) (x : Record) (g : Going) → g
 unfolding schedule begun pick
 begins xs l r c x g h =
     let s = state l r c x in
-    let e : schedule xs s ≡ pick (eqb (check s) 0) (follow xs 0 s) (followed 0 (check s) s) = refl
-    in
+    let e : schedule xs s ≡ pick (eqb (check s) 0) (follow xs 0 s) (followed 0 (check s) 0 s) =
+    refl in
     let Begun : Going → Type 0 = λ z. Inv xs (schedule xs s) (changesAll xs s) z
     (state l r c (z .rec)) in
     subst Begun (sym h)
-    (split Begun (eqb (check s) 0) (going 0 (length xs) 0 x) (ended 0 (check s) 0 x)
-    (λ t. inl (refl, refl, picked _ _ _ _ _ e t, omega arith))
+    (split Begun (eqb (check s) 0) (going 0 (length xs) 0 x) (ended 0 (check s) 0 0 x)
+    (λ t. inl (refl, refl, refl, picked _ _ _ _ _ e t, omega arith))
     (λ t. inr (refl, picked _ _ _ _ _ e t, sum-none xs s (eqb-false _ _ t))))

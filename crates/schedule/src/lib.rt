@@ -15,12 +15,13 @@ ghost use Rattle.schedule.specs.Stands.{begun, after, Goes};
 ghost use Rattle.base.specs.Lent.{was, is};
 ghost use Rattle.rules.specs.Lent.{given, leaves};
 
-// Where a run stands: the next step, the step before which it ends, the code, how many colours were
-// changed, and the record.
+// Where a run stands: the next step, the step before which it ends, the code and its detail, how
+// many colours were changed, and the record.
 pub struct Going {
     pub at: usize,
     pub end: usize,
     pub code: u8,
+    pub detail: u8,
     pub changed: usize,
     pub rec: Record,
 }
@@ -35,6 +36,7 @@ pub fn begin(lefts: usize, rights: usize, colours: usize, x: Record, n: usize) -
             at: 0,
             end: 0,
             code: judged,
+            detail: 0,
             changed: 0,
             rec: x,
         };
@@ -43,12 +45,13 @@ pub fn begin(lefts: usize, rights: usize, colours: usize, x: Record, n: usize) -
         at: 0,
         end: n,
         code: 0,
+        detail: 0,
         changed: 0,
         rec: x,
     }
 }
 
-// After a step: one more is done, or the run ends here with its code.
+// After a step: one more is done, or the run ends here with its code and detail.
 fn after(g: Going, made: Made) -> Going
     requires { ⌜ g .at < g .end ⌝ }
     requires { ⌜ g .changed + made .changed < 18446744073709551616 ⌝ }
@@ -65,6 +68,7 @@ fn after(g: Going, made: Made) -> Going
             at: g.at,
             end: g.at,
             code,
+            detail: answer.detail(),
             changed: g.changed,
             rec,
         };
@@ -73,6 +77,7 @@ fn after(g: Going, made: Made) -> Going
         at: next,
         end: g.end,
         code: 0,
+        detail: 0,
         changed,
         rec,
     }
@@ -90,8 +95,8 @@ pub fn advance(left: &mut [u16], right: &mut [u16], colour: &mut [u8], g: Going,
     after(g, calls::step(left, right, colour, x, a))
 }
 
-// The steps in order until one is refused: how many were done, the code, and how many colours they
-// changed in all.
+// The steps in order until one is refused: how many were done, the code and its detail, and how
+// many colours they changed in all.
 pub fn schedule(
     steps: &[Step],
     left: &mut [u16],
@@ -110,6 +115,7 @@ pub fn schedule(
     Ran {
         done: g.at,
         code: g.code,
+        detail: g.detail,
         changed: g.changed,
         rec: g.rec,
     }

@@ -81,11 +81,11 @@ fn take_next(
     ensures { λ r. ⌜ r .changed ≡ differing (was colour) (is colour) ⌝ }
 {
     if bad_free(x.m, x.r, g) {
-        return rules::refusal(7, f, x);
+        return rules::refusal_with(7, f, rules::LEFT, x);
     }
     let first = f as usize;
     if 2 < colour[first] {
-        return rules::refusal(7, f, x);
+        return rules::refusal(14, f, x);
     }
     if g == 0 {
         let changed = relink(left, right, colour, n, side, f, g);
@@ -97,7 +97,7 @@ fn take_next(
     }
     let next = g as usize;
     if 2 < colour[next] {
-        return rules::refusal(7, g, x);
+        return rules::refusal(14, g, x);
     }
     let taken = relink(left, right, colour, n, side, f, g);
     let after = table::shade_node(colour, g);
@@ -126,7 +126,7 @@ fn take_first(
     ensures { λ r. ⌜ r .changed ≡ differing (was colour) (is colour) ⌝ }
 {
     if bad_free(x.m, x.r, f) {
-        return rules::refusal(7, 1, x);
+        return rules::refusal_with(7, 1, rules::LEFT, x);
     }
     if f == 0 {
         return rules::refusal(9, 0, x);
@@ -158,7 +158,7 @@ fn take_from(
             let f = table::edge(left, right, 0, 1);
             take_first(left, right, colour, x, side, f, n)
         }
-        Source::Missing(code, n) => rules::refusal(code, n, x),
+        Source::Missing(code, n, detail) => rules::refusal_with(code, n, detail, x),
     }
 }
 

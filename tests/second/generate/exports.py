@@ -149,8 +149,9 @@ def bad(rng, x, wide, edge=0):
     """A bad edge; some of them would be the edge, or a good one, if cut to 16 bits."""
     high = (wide - x.m) // 65536
     cut = 65536 * rng.choice((1, 1, 2, rng.randint(1, high)))
-    return rng.choice((1, x.m, x.m + 1, 4096, 32768, 65535, 65536, 65537, wide, wide - 1,
-                       cut + edge, cut + edge, cut + rng.randrange(x.m)))
+    return rng.choice((1, x.m, rng.choice((x.m + 1, 4096, 32768, 65535)),
+                       rng.choice((65536, 65537, wide, wide - 1)), cut + edge,
+                       cut + rng.randrange(x.m)))
 
 
 def good(rng, x):
@@ -163,6 +164,14 @@ def bad_in(nodes):
         side, node = rng.randrange(2), rng.choice(nodes(x))
         return [(side, node, bad(rng, x, wide, x.e[side][node]))]
     return bad_edge
+
+
+def bad_sides(rng, x, wide):
+    """NIL, FREE, a slot's node or another, each as often; one of its edges, or both. NIL's
+    may be good ones."""
+    node = rng.choice((0, 1, rng.choice(x.slots()), rng.randrange(x.r + 2, x.m)))
+    return [(side, node, bad(rng, x, wide) if node or rng.random() < 0.8 else good(rng, x))
+            for side in rng.choice(((0,), (1,), (0, 1)))]
 
 
 def bad_twice(rng, x, wide):
@@ -308,7 +317,7 @@ def roots(x):
 BAD_EDGES = [bad_in(lambda x: range(x.m)), nil_set(0), nil_set(1), bad_in(lambda x: [1]),
              nil_wide, all_wide, bad_in(roots), bad_in(lambda x: x.free), bad_twice,
              bad_in(lambda x: x.garbage), bad_in(lambda x: x.graph), nil_and_later,
-             bad_in(lambda x: [x.m - 1])]
+             bad_in(lambda x: [x.m - 1]), bad_sides]
 BAD_CHAINS = [right_of(0), to_slot(0), self_loop(0), back, to_slot(-1), right_of(2), chain_twice,
               self_loop(-1), right_of(1), to_slot(2), into_set_garbage, to_slot(1), self_loop(1),
               right_of(-1), free_twice]

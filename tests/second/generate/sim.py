@@ -15,6 +15,12 @@ def bad_edge(rng, m):
     return rng.choice((1, m, m + 1, 4096, 4097, 32768, 65534, 65535))
 
 
+def make(changes):
+    """Each change: a list or dictionary, where in it, and the new value."""
+    for holder, at, value in changes:
+        holder[at] = value
+
+
 class Sim:
     def __init__(self, m, r):
         self.m, self.r = m, r

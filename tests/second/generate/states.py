@@ -8,9 +8,10 @@ import random
 import exports
 import families
 import graphs
+from aimed import aimed
 from schedule import Schedule
 from sim import (APPEND, BLACK, COLLECT, LEFT, LINK, LOOK, RIGHT, ROOTS, SCAN, SHADE, TAKE, Sim,
-                 bad_colour, bad_edge)
+                 bad_colour, bad_edge, make)
 
 U32 = 4294967295
 
@@ -19,12 +20,6 @@ def beyond(rng, value):
     """A number whose lower 8 or 16 bits are the value's, or a large one."""
     return rng.choice((value + 256, value + 65536, value + 65536 * rng.randrange(1, 65535),
                        2 ** 31 + value, 65535, U32, U32 - rng.randrange(9)))
-
-
-def make(changes):
-    """Each change: a list or dictionary, where in it, and the new value."""
-    for holder, at, value in changes:
-        holder[at] = value
 
 
 def place(rng, sim):
@@ -234,7 +229,7 @@ STATES = ((plain, 50, 3, 24), (collecting, 80, 3, 24), (collecting_bad, 60, 3, 1
           (damaged, 120, 4, 16), (taking, 70, 7, 14), (sizes, 30, 3, 24), (records, 60, 3, 24),
           (limits, 70, 3, 12), (order, 80, 10, 14), (colouring, 60, 7, 14),
           (pairs, 60, 3, 12), (sizes, 1, 4096, 4096), (records, 1, 4096, 4096),
-          (pairs, 1, 4096, 4096))
+          (pairs, 1, 4096, 4096), (aimed, 240, 7, 14))
 
 
 def sound(rng, low, high):
@@ -266,10 +261,11 @@ def state_lines(seed):
 
 def run_lines(seed):
     rng = random.Random(seed)
-    for _ in range(150):
-        family, _, low, high = rng.choice((STATES[0], rng.choice(STATES)))
+    for _ in range(180):
+        family, _, low, high = rng.choice((STATES[0], STATES[-1], rng.choice(STATES)))
         sim = sound(rng, low, high)
-        steps = [family(rng, sim)] if rng.random() < 0.5 else []
+        steps = [[LOOK, rng.randrange(sim.r), 0, 0, 0, 0, 0, 0]] * rng.choice((0, 0, 1, 3))
+        steps += [family(rng, sim)] if family is aimed or rng.random() < 0.5 else []
         for _ in range(rng.choice((0, 0, 1, 2, rng.randint(3, 50)))):
             kind = rng.choice((TAKE, LINK, COLLECT, COLLECT, COLLECT, LOOK))
             steps.append([kind, 0, 0, 0, rng.randrange(2), 0, 1, rng.randrange(2)])
@@ -304,11 +300,12 @@ def lent(rng, j):
         return exports.random_edges(rng, exports.LIST)
     if j % 6 == 2:
         return exports.defects(rng, j // 6, exports.LIST)
-    if j % 18 == 3:
+    if j % 6 == 4 or j % 18 == 3:
         x = exports.roomy(rng)
-        x.make(rng.choice(exports.NONE)(rng, x, exports.LIST))
+        way = exports.bad_sides if j % 6 == 4 else rng.choice(exports.NONE)
+        x.make(way(rng, x, exports.LIST))
         return x
-    if j % 18 == 4:
+    if j % 18 == 9:
         return exports.from_run(rng, m, r)
     return exports.defect(rng, rng.randrange(3000), exports.LIST)
 
@@ -331,8 +328,8 @@ def sized(rng, line, arrays):
 
 def load_lines(seed):
     rng = random.Random(seed)
-    for j in range(150 + (seed % 4 == 0)):
-        if j < 150:
+    for j in range(180 + (seed % 4 == 0)):
+        if j < 180:
             x = lent(rng, j)
         else:
             x = exports.sound(rng, 4096 + (seed % 12 == 4), rng.choice((1, 63, 64, 65)))

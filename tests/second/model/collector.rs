@@ -1,6 +1,7 @@
 //! The collector's steps. Codes 1 and 2 have been judged before.
 
-use crate::answer::{answer, damaged, Did, Reply};
+use crate::answer::{answer, refuse_for, Did, Refusal, Reply};
+use crate::answer::{UNFIT, UNFIT_GRAY, UNFIT_LAST, UNFIT_ROOT};
 use crate::record::{Phase, Record, LARGEST_CYCLES};
 use crate::table::{Table, BLACK, GRAY, LEFT, RIGHT, WHITE};
 
@@ -70,15 +71,26 @@ fn black(table: &mut Table, record: &mut Record, i: usize) -> Reply {
     answer(Did::Blackened, i)
 }
 
+/// [Damage 4] Code 15: gray, a white root, the white node that is last. FREE can be
+/// both of the latter, and is then a root.
+fn judge_fit(record: &Record, i: usize, colour: u8) -> Result<(), Refusal> {
+    if colour == GRAY {
+        return refuse_for(UNFIT, i, UNFIT_GRAY);
+    }
+    if colour == WHITE && i <= record.r + 1 {
+        return refuse_for(UNFIT, i, UNFIT_ROOT);
+    }
+    if colour == WHITE && i == record.last {
+        return refuse_for(UNFIT, i, UNFIT_LAST);
+    }
+    Ok(())
+}
+
 /// [Append 1] reads the colour; [Append 2] black, [Append 3] white; [Append 4]
 fn append(table: &mut Table, record: &mut Record, i: usize) -> Reply {
-    // [Damage 3] [Damage 4]
+    // [Damage 3]
     let colour = table.colour(i)?;
-    let white_root = colour == WHITE && i <= record.r + 1;
-    let white_last = colour == WHITE && i == record.last;
-    if colour == GRAY || white_root || white_last {
-        return damaged(i);
-    }
+    judge_fit(record, i, colour)?;
     let did;
     if colour == BLACK {
         table.colours[i] = WHITE;

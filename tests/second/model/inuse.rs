@@ -23,8 +23,8 @@ fn reached_by_slots(table: &Table, record: &Record) -> Vec<bool> {
     reached
 }
 
-/// Codes 1 and 2, then 7 with the lowest node that is reached and has a bad edge.
-/// Answers how many are reached, slots' nodes left out.
+/// Codes 1 and 2, then 7 with the lowest node that is reached and has a bad edge, and
+/// the side, left before right. Answers how many are reached, slots' nodes left out.
 pub fn nodes_in_use(table: &Table, record: &Record) -> Result<usize, Refusal> {
     record.judge(table)?;
     let reached = reached_by_slots(table, record);

@@ -1,7 +1,8 @@
 //! Load: an export of the old editor is judged and, if it is sound, put into
 //! the table.
 
-use crate::answer::{refuse, refuse_at, Refusal, BAD_CHAIN, BAD_EXPORT, FREE_REACHED, SIZE};
+use crate::answer::{refuse, refuse_at, refuse_for, Refusal};
+use crate::answer::{BAD_CHAIN, BAD_EXPORT, FREE_REACHED, SIZE};
 use crate::record::{begin, refused, size_is_good, Record};
 use crate::table::{Table, FREE, LEFT, NIL, RIGHT, WHITE};
 
@@ -13,7 +14,8 @@ fn edge(export: &Export, node: usize, side: usize) -> usize {
     export[side][node] as usize
 }
 
-/// Code 11: the lowest node that has a bad edge; NIL must have edges 0.
+/// Code 11: the lowest node that has a bad edge, and its side, left before right; NIL
+/// must have edges 0.
 fn judge_edges(export: &Export, m: usize) -> Result<(), Refusal> {
     for node in 0..m {
         for side in [LEFT, RIGHT] {
@@ -21,7 +23,7 @@ fn judge_edges(export: &Export, m: usize) -> Result<(), Refusal> {
             let bad = target >= m || target == FREE;
             let from_nil = node == NIL && target != NIL;
             if bad || from_nil {
-                return refuse_at(BAD_EXPORT, node);
+                return refuse_for(BAD_EXPORT, node, side);
             }
         }
     }

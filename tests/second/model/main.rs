@@ -1,7 +1,7 @@
 //! A second program, written from the studio's document 01 alone, without a look
-//! at the first, and Load, nodes in use, colours changed and the count of free
-//! nodes from the studio's requests for them in the same way. The comments cite the
-//! rules of docs/RULES.md that it follows.
+//! at the first, and Load, nodes in use, colours changed, the count of free nodes and
+//! the kinds of damage from the studio's requests for them in the same way. The
+//! comments cite the rules of docs/RULES.md that it follows.
 //!
 //!     rustc -O main.rs -o model
 //!
@@ -20,17 +20,19 @@
 //! other number may have 64. A line not of this form prints "bad line". The
 //! answer is one line:
 //!
-//!     code node changed did, then M R .. colour.. as they are afterwards
+//!     code node detail changed did, then M R .. colour.. as they are afterwards
 //!
-//! changed: how many colours the step changed, 0 for a refusal. did: 0 an editor
-//! step or a refusal, 1 shaded, 2 looked, 3 blackened, 4 whitened, 5 appended.
+//! detail: the side of the bad edge for code 7 (0 left, 1 right), the reason for 15
+//! (0 gray, 1 a white root, 2 a white last), else 0. changed: how many colours the
+//! step changed, 0 for a refusal. did: 0 an editor step or a refusal, 1 shaded, 2
+//! looked, 3 blackened, 4 whitened, 5 appended.
 //!
 //! `model --run` has after the arrays the number of steps and then so many
-//! times the eight numbers of a step, and answers: done code changed M R ..
-//! colour.. with the colours changed, summed over the steps that were done.
+//! times the eight numbers of a step, and answers: done code detail changed M R
+//! .. colour.. with the colours changed, summed over the steps that were done.
 //!
 //! `model --fresh` reads: M R len left.. len right.. len colour.. and answers:
-//! code M R .. colour..
+//! code detail M R .. colour.. with the detail 0.
 //!
 //! `model --load` reads M and R, the two lists of edges that are lent, and the
 //! three slices as they are before; each of the five has its own length, which
@@ -43,18 +45,18 @@
 //! The edges that are lent have 32 bits, those in the slices 16, colours 8, M
 //! and R and the lengths 64. The answer is one line:
 //!
-//!     code node, then M R .. colour.. as they are afterwards
+//!     code node detail, then M R .. colour.. as they are afterwards
 //!
-//! node is last where code is 0, the node refused where code is 11, 12 or 13,
-//! and 0 where it is 1. The record printed (M to free) is all 0 where code is not
-//! 0, and the slices are then as they were.
+//! node is last where code is 0, the node refused where code is 11, 12 or 13, and 0
+//! where it is 1; detail is the side where code is 11, else 0. The record printed (M
+//! to free) is all 0 where code is not 0, and the slices are then as they were.
 //!
 //! `model --inuse` reads a record and the three slices as `--state` does, without
-//! a step, and answers: code number. number is that of the nodes in use where code
-//! is 0, the node refused where it is 7, else 0.
+//! a step, and answers: code number detail. number is that of the nodes in use where
+//! code is 0, the node refused where it is 7, else 0; detail is the side for 7, else 0.
 //!
-//! `model --free` reads the same and answers: code count, with the count of free
-//! nodes where code is 0, else 0.
+//! `model --free` reads the same and answers: code count detail, with the count of
+//! free nodes where code is 0, else 0; detail is always 0.
 
 mod answer;
 mod collector;

@@ -110,18 +110,25 @@ fn show(record: &Record, table: &Table) -> String {
     words.join(" ")
 }
 
+/// Code, node or number, and detail.
+fn tell(reply: Result<usize, Refusal>) -> String {
+    let (code, node, detail) = match reply {
+        Ok(node) => (DONE, node, 0),
+        Err(refusal) => (refusal.code, refusal.node, refusal.detail),
+    };
+    format!("{} {} {}", code, node, detail)
+}
+
 pub fn state_line(numbers: &mut Numbers) -> Option<String> {
     let mut record = numbers.record()?;
     let mut table = numbers.table()?;
     let step = numbers.step()?;
     numbers.end()?;
     let (reply, changed) = do_and_count(&mut table, &mut record, &step);
-    let (code, node, did) = match reply {
-        Ok(answer) => (DONE, answer.node, answer.did as usize),
-        Err(refusal) => (refusal.code, refusal.node, 0),
-    };
+    let did = reply.as_ref().map_or(0, |answer| answer.did as usize);
+    let told = tell(reply.map(|answer| answer.node));
     let after = show(&record, &table);
-    Some(format!("{} {} {} {} {}", code, node, changed, did, after))
+    Some(format!("{} {} {} {}", told, changed, did, after))
 }
 
 pub fn run_line(numbers: &mut Numbers) -> Option<String> {
@@ -130,9 +137,12 @@ pub fn run_line(numbers: &mut Numbers) -> Option<String> {
     let count = numbers.take()?;
     let steps: Vec<Step> = (0..count).map(|_| numbers.step()).collect::<Option<_>>()?;
     numbers.end()?;
-    let (done, code, changed) = do_run(&mut table, &mut record, &steps);
+    let (done, code, detail, changed) = do_run(&mut table, &mut record, &steps);
     let after = show(&record, &table);
-    Some(format!("{} {} {} {}", done, code, changed, after))
+    Some(format!(
+        "{} {} {} {} {}",
+        done, code, detail, changed, after
+    ))
 }
 
 pub fn fresh_line(numbers: &mut Numbers) -> Option<String> {
@@ -140,7 +150,8 @@ pub fn fresh_line(numbers: &mut Numbers) -> Option<String> {
     let mut table = numbers.table()?;
     numbers.end()?;
     let (code, record) = fresh(&mut table, m, r);
-    Some(format!("{} {}", code, show(&record, &table)))
+    // Code 1 has no detail.
+    Some(format!("{} 0 {}", code, show(&record, &table)))
 }
 
 pub fn load_line(numbers: &mut Numbers) -> Option<String> {
@@ -149,33 +160,21 @@ pub fn load_line(numbers: &mut Numbers) -> Option<String> {
     let mut table = numbers.table()?;
     numbers.end()?;
     let (reply, record) = load(&mut table, &export, m, r);
-    let (code, node) = match reply {
-        Ok(last) => (DONE, last),
-        Err(refusal) => (refusal.code, refusal.node),
-    };
-    Some(format!("{} {} {}", code, node, show(&record, &table)))
-}
-
-fn show_count(reply: Result<usize, Refusal>) -> String {
-    let (code, number) = match reply {
-        Ok(count) => (DONE, count),
-        Err(refusal) => (refusal.code, refusal.node),
-    };
-    format!("{} {}", code, number)
+    Some(format!("{} {}", tell(reply), show(&record, &table)))
 }
 
 pub fn inuse_line(numbers: &mut Numbers) -> Option<String> {
     let record = numbers.record()?;
     let table = numbers.table()?;
     numbers.end()?;
-    Some(show_count(nodes_in_use(&table, &record)))
+    Some(tell(nodes_in_use(&table, &record)))
 }
 
 pub fn free_line(numbers: &mut Numbers) -> Option<String> {
     let record = numbers.record()?;
     let table = numbers.table()?;
     numbers.end()?;
-    Some(show_count(record.count_free(&table)))
+    Some(tell(record.count_free(&table)))
 }
 
 pub fn program(

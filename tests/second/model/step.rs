@@ -56,20 +56,23 @@ pub fn do_and_count(table: &mut Table, record: &mut Record, step: &Step) -> (Rep
     (reply, changed)
 }
 
-/// [Schedules 1] [Schedules 2] [Schedules 3] Answers how many were done, the code,
-/// and the colours changed, summed over the steps done.
-pub fn do_run(table: &mut Table, record: &mut Record, steps: &[Step]) -> (usize, usize, usize) {
+/// How many steps of a run were done, the code and the detail, and the colours
+/// changed, summed over the steps done.
+pub type Run = (usize, usize, usize, usize);
+
+/// [Schedules 1] [Schedules 2] [Schedules 3]
+pub fn do_run(table: &mut Table, record: &mut Record, steps: &[Step]) -> Run {
     // [Schedules 4]
     if let Err(refusal) = record.judge(table) {
-        return (0, refusal.code, 0);
+        return (0, refusal.code, refusal.detail, 0);
     }
     let mut sum = 0;
     for (done, step) in steps.iter().enumerate() {
         let (reply, changed) = do_and_count(table, record, step);
         if let Err(refusal) = reply {
-            return (done, refusal.code, sum);
+            return (done, refusal.code, refusal.detail, sum);
         }
         sum += changed;
     }
-    (steps.len(), DONE, sum)
+    (steps.len(), DONE, 0, sum)
 }

@@ -1,6 +1,6 @@
 //! The node table and the values read from it.
 
-use crate::answer::{damaged, Refusal};
+use crate::answer::{bad_colour, bad_edge, Refusal};
 use crate::record::Record;
 
 /// [Table 5]
@@ -39,7 +39,7 @@ impl Table {
     pub fn edge(&self, record: &Record, node: usize, side: usize) -> Result<usize, Refusal> {
         let edge = self.edges[side][node] as usize;
         if edge >= record.m || edge == 1 {
-            return damaged(node);
+            return bad_edge(node, side);
         }
         Ok(edge)
     }
@@ -48,7 +48,7 @@ impl Table {
     pub fn free_edge(&self, record: &Record, node: usize) -> Result<usize, Refusal> {
         let edge = self.edges[LEFT][node] as usize;
         if (edge >= 1 && edge <= record.r + 1) || edge >= record.m {
-            return damaged(node);
+            return bad_edge(node, LEFT);
         }
         Ok(edge)
     }
@@ -57,7 +57,7 @@ impl Table {
     pub fn colour(&self, node: usize) -> Result<u8, Refusal> {
         let colour = self.colours[node];
         if colour > BLACK {
-            return damaged(node);
+            return bad_colour(node);
         }
         Ok(colour)
     }

@@ -31,6 +31,9 @@ collect-requires c κs = search needs
 code-requires : tie.Need-code-requires Inv-loop μ-loop
 code-requires c κs = search needs
 
+detail-requires : tie.Need-detail-requires Inv-loop μ-loop
+detail-requires c κs = search needs
+
 same-length : tie.Need-same-length Inv-loop μ-loop
 same-length c = omega arith
 
@@ -42,10 +45,11 @@ same-length-3 c = omega arith
 
 returns : tie.Need-returns Inv-loop μ-loop
 returns c =
-    let at-call = c .before .before .before .before .before .before .before .before .before in
+    let at-if1 = c .before in
+    let at-call = at-if1 .before .before .before .before .before .before .before .before .before in
     let at-test = at-call .before .before .before .before in
     refused _ _ _ _ _ (at-call .collect .ensures .0) (at-test .loop-test .taken)
-    (c .before .code .ensures) (c .if1 .taken)
+    (at-if1 .before .code .ensures) _ (c .detail .ensures) (at-if1 .if1 .taken)
     ∙ sym (at-test .before .loop .inv .4)
 
 add-done : tie.Need-add-done Inv-loop μ-loop
@@ -86,6 +90,7 @@ one-by-one-spec =
     loop-holds
     collect-requires
     code-requires
+    detail-requires
     same-length
     same-length-2
     same-length-3

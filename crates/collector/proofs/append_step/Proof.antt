@@ -42,6 +42,9 @@ returns-2 c =
     let appended = c .before .before .before .before .append-white .ensures in
     (search (appended .0, tests, needs) depth 12, appended .1 ∙ unchanged _)
 
+slice-read-if3 : tie.Need-slice-read-if3
+slice-read-if3 c = search needs
+
 refusal-requires : tie.Need-refusal-requires
 refusal-requires c κs = search needs
 
@@ -50,6 +53,16 @@ unfolding appendStep
 returns-3 c = (
   rw (c .refusal .ensures) (search (tests, needs) depth 12),
   rw (c .refusal .ensures) (unchanged _),
+)
+
+refusal-with-requires : tie.Need-refusal-with-requires
+refusal-with-requires c κs = search needs
+
+returns-4 : tie.Need-returns-4
+unfolding appendStep
+returns-4 c = (
+  rw (c .refusal-with .ensures) (search (tests, needs) depth 12),
+  rw (c .refusal-with .ensures) (unchanged _),
 )
 
 pub append-step-spec : {M : Type 1} → statement M
@@ -66,5 +79,8 @@ append-step-spec =
     same-length-2
     same-length-3
     returns-2
+    slice-read-if3
     refusal-requires
-    returns-3)
+    returns-3
+    refusal-with-requires
+    returns-4)

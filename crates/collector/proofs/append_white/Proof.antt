@@ -20,21 +20,21 @@ cast-end c = search needs
 add-if1 : tie.Need-add-if1
 add-if1 c = search needs
 
-refusal-requires : tie.Need-refusal-requires
-refusal-requires c κs = search needs
+refusal-with-requires : tie.Need-refusal-with-requires
+refusal-with-requires c κs = search needs
 
 returns : tie.Need-returns
 unfolding appendWhite
 returns c =
-    (λ l. rw (c .refusal .ensures) (search (tests, needs) depth 12), rw (c .refusal .ensures))
+    (λ l. rw (c .refusal-with .ensures) (search (tests, needs) depth 12), rw (c .refusal-with .ensures))
 
-refusal-requires-2 : tie.Need-refusal-requires-2
-refusal-requires-2 c κs = search needs
+refusal-with-requires-2 : tie.Need-refusal-with-requires-2
+refusal-with-requires-2 c κs = search needs
 
 returns-2 : tie.Need-returns-2
 unfolding appendWhite
 returns-2 c =
-    (λ l. rw (c .refusal2 .ensures) (search (tests, needs) depth 12), rw (c .refusal2 .ensures))
+    (λ l. rw (c .refusal-with2 .ensures) (search (tests, needs) depth 12), rw (c .refusal-with2 .ensures))
 
 mul-left : tie.Need-mul-left
 mul-left c = search needs
@@ -89,9 +89,9 @@ append-white-spec =
     (tie.spec
     cast-end
     add-if1
-    refusal-requires
+    refusal-with-requires
     returns
-    refusal-requires-2
+    refusal-with-requires-2
     returns-2
     mul-left
     slice-write-left

@@ -12,15 +12,15 @@ use Rattle.collector.proofs.edge_step.Tie as tie
 bad-edge-requires : tie.Need-bad-edge-requires
 bad-edge-requires c κs = search needs
 
-refusal-requires : tie.Need-refusal-requires
-refusal-requires c κs = search needs
+refusal-with-requires : tie.Need-refusal-with-requires
+refusal-with-requires c κs = search needs
 
 returns : tie.Need-returns
 unfolding edgeStep
 returns c = (
-  λ es. rw (c .refusal .ensures)
+  λ es. rw (c .refusal-with .ensures)
       (pick-yes _ _ _ _ (sym (c .before .if1 .taken) ∙ c .before .before .bad-edge .ensures) refl),
-  rw (c .refusal .ensures) (unchanged _),
+  rw (c .refusal-with .ensures) (unchanged _),
 )
 
 shade-step-requires : tie.Need-shade-step-requires
@@ -44,7 +44,7 @@ edge-step-spec =
     tie.close
     (tie.spec
     bad-edge-requires
-    refusal-requires
+    refusal-with-requires
     returns
     shade-step-requires
     same-length

@@ -13,14 +13,17 @@ walk-requires c κs = search needs
 enum-known-to : tie.Need-enum-known-to
 enum-known-to c = search needs
 
-enum-told : tie.Need-enum-told
-enum-told c = search needs
+set-edge-requires : tie.Need-set-edge-requires
+set-edge-requires c κs = search needs
 
-stood-requires : tie.Need-stood-requires
-stood-requires c κs = search needs
+owing-requires : tie.Need-owing-requires
+owing-requires c κs = search needs
 
-refusal-requires : tie.Need-refusal-requires
-refusal-requires c κs = search needs
+enum-known-to-2 : tie.Need-enum-known-to-2
+enum-known-to-2 c = search needs
+
+refusal-with-requires : tie.Need-refusal-with-requires
+refusal-with-requires c κs = search needs
 
 same-length : tie.Need-same-length
 same-length c = search needs
@@ -30,28 +33,7 @@ same-length-2 c = search needs
 
 returns : tie.Need-returns
 unfolding linkTo
-returns c = (
-  λ k. rw (c .refusal .ensures)
-      (stops _ _ _ _ _ _ (c .before .before .before .before .walk .ensures)
-      (c .before .before .enum-told .given .1) (c .before .stood .ensures)),
-  rw (c .refusal .ensures),
-)
-
-set-edge-requires : tie.Need-set-edge-requires
-set-edge-requires c κs = search needs
-
-owing-requires : tie.Need-owing-requires
-owing-requires c κs = search needs
-
-same-length-3 : tie.Need-same-length-3
-same-length-3 c = search needs
-
-same-length-4 : tie.Need-same-length-4
-same-length-4 c = search needs
-
-returns-2 : tie.Need-returns-2
-unfolding linkTo
-returns-2 c =
+returns c =
     let at-to = c .before .before .before .before .before .before .before .before .before in
     let at-walk = at-to .before .before in
     let at-entry = at-walk .before .before .before .before .before in (
@@ -62,20 +44,34 @@ returns-2 c =
       refl,
     )
 
+same-length-3 : tie.Need-same-length-3
+same-length-3 c = search needs
+
+same-length-4 : tie.Need-same-length-4
+same-length-4 c = search needs
+
+returns-2 : tie.Need-returns-2
+unfolding linkTo
+returns-2 c =
+    let at-to = c .before .before in (
+      λ k. rw (c .refusal-with .ensures)
+          (stops _ _ _ _ _ _ (at-to .before .before .walk .ensures) (at-to .to2 .given .1)),
+      rw (c .refusal-with .ensures),
+    )
+
 pub link-to-spec : {M : Type 1} → statement M
 link-to-spec =
     tie.close
     (tie.spec
     walk-requires
     enum-known-to
-    enum-told
-    stood-requires
-    refusal-requires
+    set-edge-requires
+    owing-requires
+    enum-known-to-2
+    refusal-with-requires
     same-length
     same-length-2
     returns
-    set-edge-requires
-    owing-requires
     same-length-3
     same-length-4
     returns-2)

@@ -36,32 +36,29 @@ walk-requires c κs = let z =
 enum-known-found : tie.Need-enum-known-found
 enum-known-found c = search needs
 
-enum-told : tie.Need-enum-told
-enum-told c = search needs
+enum-known-found-2 : tie.Need-enum-known-found-2
+enum-known-found-2 c = search needs
 
-stood-requires : tie.Need-stood-requires
-stood-requires c κs = search needs
-
-refusal-requires-2 : tie.Need-refusal-requires-2
-refusal-requires-2 c κs = search needs
+refusal-with-requires : tie.Need-refusal-with-requires
+refusal-with-requires c κs = search needs
 
 returns-2 : tie.Need-returns-2
 unfolding look lookCode
 returns-2 c =
-    let at-walk = c .before .before .before .before in
-    told-none _ _ _ _ _ (rw (step-looking, c .refusal2 .ensures) (unless-done _ _ _ _ _
+    let at-walk = c .before .before .before in
+    told-none _ _ _ _ _ (rw step-looking (unless-done _ _ _ _ _
     (at-walk .before .before .look-code .ensures) (at-walk .before .if1 .left)
-    (stops _ _ _ _ _ _ (at-walk .walk .ensures) (c .before .before .enum-told .given .1)
-    (c .before .stood .ensures)))) (rw (c .refusal2 .ensures))
+    (arrives _ _ _ _ _ _ (at-walk .walk .ensures) (c .before .found .given .1) refl))) refl
 
 returns-3 : tie.Need-returns-3
 unfolding look lookCode
 returns-3 c =
-    told-none _ _ _ _ _ (rw step-looking (unless-done _ _ _ _ _
-    (c .before .before .before .before .before .look-code .ensures)
-    (c .before .before .before .before .if1 .left)
-    (arrives _ _ _ _ _ _ (c .before .before .before .walk .ensures) (c .before .found .given .1)
-    refl))) refl
+    let at-found = c .before .before in
+    let at-walk = at-found .before .before in
+    told-none _ _ _ _ _ (rw (step-looking, c .refusal-with .ensures) (unless-done _ _ _ _ _
+    (at-walk .before .before .look-code .ensures) (at-walk .before .if1 .left)
+    (stops _ _ _ _ _ _ (at-walk .walk .ensures) (at-found .found2 .given .1))))
+    (rw (c .refusal-with .ensures))
 
 pub look-spec : {M : Type 1} → statement M
 look-spec =
@@ -72,8 +69,7 @@ look-spec =
     returns
     walk-requires
     enum-known-found
-    enum-told
-    stood-requires
-    refusal-requires-2
+    enum-known-found-2
+    refusal-with-requires
     returns-2
     returns-3)

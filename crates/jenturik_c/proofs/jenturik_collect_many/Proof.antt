@@ -4,7 +4,7 @@ use mathlib.Core.Path.{refl, ap, _∙_}
 use borrow.Author.Needs.{needs}
 use Rattle.base.proofs.Tests.{not-no, not-yes}
 use Rattle.jenturik_c.proofs.Faces.{spurned-run, spurned-count, spurned-last}
-use Rattle.jenturik_c.proofs.Faces.{faces-run, faces-count, faces-last}
+use Rattle.jenturik_c.proofs.Faces.{faces-run, faces-count, faces-last, packs}
 use Rattle.jenturik_c.specs.Face.{fitted}
 use Rattle.jenturik_c.proofs.jenturik_collect_many.Statement.{statement}
 use Rattle.jenturik_c.proofs.jenturik_collect_many.Tie as tie
@@ -45,6 +45,17 @@ what-requires c κs = search needs
 code-requires : tie.Need-code-requires
 code-requires c κs = search needs
 
+detail-requires : tie.Need-detail-requires
+detail-requires c κs = search needs
+
+packed-requires : tie.Need-packed-requires
+packed-requires c κs =
+    let at-words-of = c .before .before .before .before .before in
+    let at-collect-many = at-words-of .before .before .before .before .before .before .before
+    .before in
+    packs _ _ _ _ _ (at-collect-many .collect-many .ensures .0 .1) (c .before .code .ensures)
+    (c .detail .ensures)
+
 same-length : tie.Need-same-length
 same-length c = search needs
 
@@ -56,20 +67,34 @@ same-length-3 c = search needs
 
 returns-2 : tie.Need-returns-2
 returns-2 c =
-    let at-collect-many = c .before .before .before .before .before .before .before .before .before
-    .before .before .before in
+    let at-detail = c .before in
+    let at-code = at-detail .before in
+    let at-what = at-code .before in
+    let at-fitted = at-what .before .before in
+    let at-collect-many = at-fitted .before .before .before .before .before .before .before .before
+    .before in
     let at-record-of = at-collect-many .before in
     let at-if1 = at-record-of .before .before .before .before in
     let a-record = not-no _ (at-if1 .if1 .left) ∙ at-if1 .before .is-record .ensures in
     let same = at-record-of .record-of .ensures in
-    let at-fitted = c .before .before .before in
     let written = at-fitted .before .words-of .ensures in
     let many = at-collect-many .collect-many .ensures in (
-      rw (c .code .ensures) (faces-run _ _ _ _ _ _ _ _ _ a-record same _ _ _ _ (many .0 .0)
-          (written .0)),
+      rw (
+        c .packed .ensures .0,
+        c .packed .ensures .1,
+        at-code .code .ensures,
+        at-detail .detail .ensures,
+      ) (faces-run _ _ _ _ _ _ _ _ _ a-record same _ _ _ _ _ (many .0 .0) (written .0)),
       (
         faces-last _ _ _ _ _ _ _ _ a-record same (many .0 .1)
-            (rw (c .before .what .ensures, c .code .ensures, c .before .before .node .ensures)),
+            (rw (
+              at-what .what .ensures,
+              c .packed .ensures .0,
+              c .packed .ensures .1,
+              at-code .code .ensures,
+              at-detail .detail .ensures,
+              at-what .before .node .ensures,
+            )),
         (
           λ h. written .1,
           faces-count _ _ _ _ _ a-record same _ _
@@ -91,6 +116,8 @@ jenturik-collect-many-spec =
     node-requires
     what-requires
     code-requires
+    detail-requires
+    packed-requires
     same-length
     same-length-2
     same-length-3

@@ -31,6 +31,9 @@ words-of-requires c κs = search needs
 cast-t19 : tie.Need-cast-t19
 cast-t19 c = search needs
 
+cast-t20 : tie.Need-cast-t20
+cast-t20 c = search needs
+
 fitted-requires : tie.Need-fitted-requires
 fitted-requires c κs = search needs
 
@@ -45,15 +48,16 @@ same-length-3 c = search needs
 
 returns-2 : tie.Need-returns-2
 returns-2 c =
-    let at-schedule-of = c .before .before .before .before .before .before .before .before .before
-    .before in
+    let at-words-of = c .before .before .before in
+    let at-left = at-words-of .before .before .before .before .before .before .before in
+    let at-schedule-of = at-left .before in
     let at-record-of = at-schedule-of .before in
     let at-if1 = at-record-of .before .before .before .before in
     let a-record = not-no _ (at-if1 .if1 .left) ∙ at-if1 .before .is-record .ensures in
     let same = at-record-of .record-of .ensures in
     let done = at-schedule-of .schedule-of .ensures in
-    let written = c .before .before .words-of .ensures in (
-      faces-run _ _ _ _ _ _ _ _ _ a-record same _ _ _ _ (done .0) (written .0),
+    let written = at-words-of .words-of .ensures in (
+      faces-run _ _ _ _ _ _ _ _ _ a-record same _ _ _ _ _ (done .0) (written .0),
       (
         λ h. written .1,
         faces-count _ _ _ _ _ a-record same _ _ (c .fitted .ensures ∙ ap fitted (done .1)),
@@ -70,6 +74,7 @@ jenturik-schedule-spec =
     schedule-of-requires
     words-of-requires
     cast-t19
+    cast-t20
     fitted-requires
     same-length
     same-length-2

@@ -1,4 +1,4 @@
--- The three numbers are the answer's, and the fourth is the one given, in wider types.
+-- Four numbers are the answer's, and the fifth is the one given, in wider types.
 use mathlib.Core.Path.{refl}
 use borrow.Author.Needs.{needs}
 use Rattle.jenturik_c.proofs.tell.Statement.{statement}
@@ -16,15 +16,23 @@ code-requires c κs = search needs
 cast-t6 : tie.Need-cast-t6
 cast-t6 c = search needs
 
-node-requires : tie.Need-node-requires
-node-requires c κs = search needs
+detail-requires : tie.Need-detail-requires
+detail-requires c κs = search needs
 
 cast-t8 : tie.Need-cast-t8
 cast-t8 c = search needs
+
+node-requires : tie.Need-node-requires
+node-requires c κs = search needs
+
+cast-t10 : tie.Need-cast-t10
+cast-t10 c = search needs
 
 returns : tie.Need-returns
 returns c = (cc, refl)
 
 pub tell-spec : {M : Type 1} → statement M
 tell-spec =
-    tie.close (tie.spec what-requires cast-t4 code-requires cast-t6 node-requires cast-t8 returns)
+    tie.close
+    (tie.spec what-requires cast-t4 code-requires cast-t6 detail-requires cast-t8 node-requires
+    cast-t10 returns)

@@ -2,7 +2,8 @@
 use mathlib.Core.Path.{_∙_}
 use native.Mathlib.Omega.{arith}
 use Rattle.base.proofs.Tests.{not-yes, not-no}
-use Rattle.load.proofs.Answers.{load-size, load-bad, load-whole, lengths, good-given}
+use Rattle.load.proofs.Answers.{load-size, load-bad, load-whole, bad-has, lengths}
+use Rattle.load.proofs.Answers.{good-given}
 use borrow.Author.Needs.{needs}
 use Rattle.load.proofs.load.Statement.{statement}
 use Rattle.load.proofs.load.Tie as tie
@@ -33,14 +34,27 @@ cast-refused c = let z =
     lengths _ _ _ _ _ _ _ (not-no _ (c .before .before .if1 .left)
     ∙ c .before .before .before .size-ok .ensures) in omega arith
 
+cast-bad-side : tie.Need-cast-bad-side
+cast-bad-side c = let z =
+    lengths _ _ _ _ _ _ _ (not-no _ (c .before .before .if1 .left)
+    ∙ c .before .before .before .size-ok .ensures) in omega arith
+
+bad-side-requires : tie.Need-bad-side-requires
+bad-side-requires c κs = let z =
+    lengths _ _ _ _ _ _ _ (not-no _ (c .before .before .if1 .left)
+    ∙ c .before .before .before .size-ok .ensures) in omega arith
+
 refused-requires-2 : tie.Need-refused-requires-2
 refused-requires-2 c κs = search needs
 
 returns-2 : tie.Need-returns-2
 returns-2 c =
-    let at-size = c .before .before .before in (
-      load-bad _ _ _ _ _ _ _ (not-no _ (at-size .if1 .left) ∙ at-size .before .size-ok .ensures)
-          (c .before .before .first-bad .ensures) (c .before .if2 .taken)
+    let at-if2 = c .before .before in
+    let at-size = at-if2 .before .before in
+    let found = at-if2 .before .first-bad .ensures in (
+      load-bad _ _ _ _ _ _ _ _ (not-no _ (at-size .if1 .left) ∙ at-size .before .size-ok .ensures)
+          found (at-if2 .if2 .taken)
+          (c .before .bad-side .ensures _ (bad-has _ _ _ found (at-if2 .if2 .taken)))
           (c .refused2 .ensures .0 _ _ _ _ _),
       c .refused2 .ensures .1,
     )
@@ -108,6 +122,8 @@ load-spec =
     cast-first-bad
     first-bad-requires
     cast-refused
+    cast-bad-side
+    bad-side-requires
     refused-requires-2
     returns-2
     cast-load-good

@@ -11,29 +11,26 @@ walk-requires c κs = search needs
 enum-known-from : tie.Need-enum-known-from
 enum-known-from c = search needs
 
-enum-told : tie.Need-enum-told
-enum-told c = search needs
-
-stood-requires : tie.Need-stood-requires
-stood-requires c κs = search needs
+enum-known-from-2 : tie.Need-enum-known-from-2
+enum-known-from-2 c = search needs
 
 returns : tie.Need-returns
 unfolding sourceOf
 returns c =
-    rw
-    (← c .before .before .before .walk .ensures, c .stood .ensures, c .before .enum-told .given .1)
+    let at-from = c .before .before in
+    rw (← at-from .before .before .walk .ensures, at-from .from .given .1)
+    (search (tests, needs) depth 12)
 
 returns-2 : tie.Need-returns-2
 unfolding sourceOf
 returns-2 c =
-    rw (← c .before .before .before .before .walk .ensures, c .before .before .from .given .1)
+    let at-from = c .before .before in
+    rw (← at-from .before .before .walk .ensures, at-from .from .given .1)
     (search (tests, needs) depth 12)
 
 returns-3 : tie.Need-returns-3
 unfolding sourceOf
-returns-3 c =
-    rw (← c .before .before .before .before .walk .ensures, c .before .before .from .given .1)
-    (search (tests, needs) depth 12)
+returns-3 c = rw (← c .before .before .before .walk .ensures, c .before .from2 .given .1)
 
 pub depart-spec : {M : Type 1} → statement M
 depart-spec =
@@ -41,8 +38,7 @@ depart-spec =
     (tie.spec
     walk-requires
     enum-known-from
-    enum-told
-    stood-requires
     returns
+    enum-known-from-2
     returns-2
     returns-3)

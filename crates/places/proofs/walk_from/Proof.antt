@@ -36,6 +36,9 @@ edge-requires c κs = omega arith
 bad-edge-requires : tie.Need-bad-edge-requires Inv-loop μ-loop
 bad-edge-requires c κs = omega arith
 
+cast-t14 : tie.Need-cast-t14 Inv-loop μ-loop
+cast-t14 c = omega arith
+
 returns-2 : tie.Need-returns-2 Inv-loop μ-loop
 returns-2 c =
     rw (
@@ -80,6 +83,7 @@ walk-from-spec =
     returns
     edge-requires
     bad-edge-requires
+    cast-t14
     returns-2
     sub-turns
     loop-less

@@ -236,14 +236,21 @@ module _ {M : Type 1} (𝓤 : URA M) (H : Heap 𝓤) (A : Atoms 𝓤) (W : Given
 
   -- ---- the result
   abbrev ran : Going → Ran
-  ran g = record { done = g .at; code = g .code; changed = g .changed; rec = g .rec }
+  ran g = record {
+    done = g .at;
+    code = g .code;
+    detail = g .detail;
+    changed = g .changed;
+    rec = g .rec;
+  }
 
   ran-is : (g : Going) → Is Go.the-row g (LL.vals Go.the-type Go.Laws.the-laws g)
       → Is Rn.the-row (ran g) (LL.vals Rn.the-type Rn.Laws.the-laws (ran g))
   ran-is g is = let fs =
       LL.owed Go.the-type Go.Laws.the-laws g _ is in
+      let told = fs .1 .1 in
       LL.owes Rn.the-type Rn.Laws.the-laws (ran g)
-      (fs .0, (fs .1 .1 .0, (fs .1 .1 .1 .0, (fs .1 .1 .1 .1 .0, tt))))
+      (fs .0, (told .0, (told .1 .0, (told .1 .1 .0, (told .1 .1 .1 .0, tt)))))
 
   -- ---- `begin`
   abbrev args-begin : ℕ × (ℕ × (ℕ × (Record × (ℕ × Unit {0}))))
@@ -554,7 +561,9 @@ module _ {M : Type 1} (𝓤 : URA M) (H : Heap 𝓤) (A : Atoms 𝓤) (W : Given
         (and-then ! (load ! (from ! (fld ! refl (stop !)))
         (look-in ! 28 (sub ! 3 refl (whole !))))
         (and-then ! (load ! (from ! (fld ! refl (stop !)))
-        (look-in ! 28 (sub ! 4 refl (whole !)))) (no-more !)))))) (from ! (stop !))
+        (look-in ! 28 (sub ! 4 refl (whole !))))
+        (and-then ! (load ! (from ! (fld ! refl (stop !)))
+        (look-in ! 28 (sub ! 5 refl (whole !)))) (no-more !))))))) (from ! (stop !))
         (init ! 40 refl (LL.lawful Rn.the-type Rn.Laws.the-laws 𝓤 H A W .typed (ran (t .g)) _
         (ran-is (t .g) (t .is)) .0)) $
         returns ! (look ! 40 refl) $ forget ! 18 refl $ forget ! 28 refl $ forget ! 30 refl $ forget

@@ -13,28 +13,28 @@ use Rattle.take.proofs.take_first.Tie as tie
 bad-free-requires : tie.Need-bad-free-requires
 bad-free-requires c κs = search needs
 
-refusal-requires : tie.Need-refusal-requires
-refusal-requires c κs = search needs
+refusal-with-requires : tie.Need-refusal-with-requires
+refusal-with-requires c κs = search needs
 
 returns : tie.Need-returns
 unfolding takeFirst
 returns c = (
-  rw (c .refusal .ensures)
+  rw (c .refusal-with .ensures)
       (pick-yes _ _ _ _ (sym (c .before .if1 .taken) ∙ c .before .before .bad-free .ensures) refl),
-  rw (c .refusal .ensures) (unchanged _),
+  rw (c .refusal-with .ensures) (unchanged _),
 )
 
-refusal-requires-2 : tie.Need-refusal-requires-2
-refusal-requires-2 c κs = search needs
+refusal-requires : tie.Need-refusal-requires
+refusal-requires c κs = search needs
 
 returns-2 : tie.Need-returns-2
 unfolding takeFirst
 returns-2 c =
     let at-if1 = c .before .before in (
-      rw (c .refusal2 .ensures)
+      rw (c .refusal .ensures)
           (pick-no _ _ _ _ (sym (at-if1 .if1 .left) ∙ at-if1 .before .bad-free .ensures)
           (search (tests, needs) depth 12)),
-      rw (c .refusal2 .ensures) (unchanged _),
+      rw (c .refusal .ensures) (unchanged _),
     )
 
 edge-requires : tie.Need-edge-requires
@@ -77,9 +77,9 @@ take-first-spec =
     tie.close
     (tie.spec
     bad-free-requires
-    refusal-requires
+    refusal-with-requires
     returns
-    refusal-requires-2
+    refusal-requires
     returns-2
     edge-requires
     take-next-requires

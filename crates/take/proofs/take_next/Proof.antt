@@ -17,31 +17,31 @@ use Rattle.take.proofs.take_next.Tie as tie
 bad-free-requires : tie.Need-bad-free-requires
 bad-free-requires c κs = search needs
 
-refusal-requires : tie.Need-refusal-requires
-refusal-requires c κs = search needs
+refusal-with-requires : tie.Need-refusal-with-requires
+refusal-with-requires c κs = search needs
 
 returns : tie.Need-returns
 unfolding takeNext
 returns c = (
-  rw (c .refusal .ensures)
+  rw (c .refusal-with .ensures)
       (pick-yes _ _ _ _ (sym (c .before .if1 .taken) ∙ c .before .before .bad-free .ensures) refl),
-  rw (c .refusal .ensures) (unchanged _),
+  rw (c .refusal-with .ensures) (unchanged _),
 )
 
 slice-read-if2 : tie.Need-slice-read-if2
 slice-read-if2 c = omega arith
 
-refusal-requires-2 : tie.Need-refusal-requires-2
-refusal-requires-2 c κs = search needs
+refusal-requires : tie.Need-refusal-requires
+refusal-requires c κs = search needs
 
 returns-2 : tie.Need-returns-2
 unfolding takeNext
 returns-2 c =
     let at-if1 = c .before .before .before in (
-      rw (c .refusal2 .ensures)
+      rw (c .refusal .ensures)
           (pick-no _ _ _ _ (sym (at-if1 .if1 .left) ∙ at-if1 .before .bad-free .ensures)
           (search (tests, needs) depth 12)),
-      rw (c .refusal2 .ensures) (unchanged _),
+      rw (c .refusal .ensures) (unchanged _),
     )
 
 relink-requires : tie.Need-relink-requires
@@ -86,17 +86,17 @@ slice-read-if4 c = let h =
     fine-free _ _ _ (sym (c .before .before .before .before .if1 .left)
     ∙ c .before .before .before .before .before .bad-free .ensures) in omega arith
 
-refusal-requires-3 : tie.Need-refusal-requires-3
-refusal-requires-3 c κs = search needs
+refusal-requires-2 : tie.Need-refusal-requires-2
+refusal-requires-2 c κs = search needs
 
 returns-4 : tie.Need-returns-4
 unfolding takeNext
 returns-4 c =
     let at-if1 = c .before .before .before .before .before .before in (
-      rw (c .refusal3 .ensures)
+      rw (c .refusal2 .ensures)
           (pick-no _ _ _ _ (sym (at-if1 .if1 .left) ∙ at-if1 .before .bad-free .ensures)
           (search (tests, needs) depth 12)),
-      rw (c .refusal3 .ensures) (unchanged _),
+      rw (c .refusal2 .ensures) (unchanged _),
     )
 
 relink-requires-2 : tie.Need-relink-requires-2
@@ -159,10 +159,10 @@ take-next-spec =
     tie.close
     (tie.spec
     bad-free-requires
-    refusal-requires
+    refusal-with-requires
     returns
     slice-read-if2
-    refusal-requires-2
+    refusal-requires
     returns-2
     relink-requires
     less-free-requires
@@ -172,7 +172,7 @@ take-next-spec =
     same-length-3
     returns-3
     slice-read-if4
-    refusal-requires-3
+    refusal-requires-2
     returns-4
     relink-requires-2
     shade-node-requires
