@@ -68,7 +68,7 @@
  *
  * How many collector steps
  *
- * Let B = M * M + 5 * M + R + 2. A cycle takes at most B collector steps. A node that no slot leads
+ * Let B = M * M + 7 * M + R + 2. A cycle takes at most B collector steps. A node that no slot leads
  * to is free again after at most 3 * B, however busy the program is; usually much sooner. After
  * code 9 make collector steps and try again. If 3 * B of them do not help, nothing was garbage, and
  * the table is full.
@@ -91,9 +91,13 @@ extern "C" {
 enum {
     JENTURIK_NODES = 0,      /* M */
     JENTURIK_SLOTS = 1,      /* R */
-    JENTURIK_PHASE = 2,      /* 0 Roots, 1 Scan, 2 Left, 3 Right, 4 Black, 5 Append */
+    JENTURIK_PHASE = 2,      /* 0 Roots, 1 Scan, 2 Left, 3 Right, 4 Black, 5 Append, 6 ShadeLeft,
+                                7 ShadeRight */
     JENTURIK_I = 3,          /* the phase's i */
-    JENTURIK_K = 4,          /* Scan's k; 0 in the other phases */
+    JENTURIK_K = 4,          /* Scan's k; in ShadeLeft and ShadeRight the number read; 0 in the
+                                other phases */
+    JENTURIK_READ = 4,       /* the same word, by its other name: the node to which the edge led
+                                when it was read, and which the next step shades */
     JENTURIK_OWES = 5,       /* 1 if a link still lacks its shade, else 0 */
     JENTURIK_OWED = 6,       /* the node to be shaded, which may be 0; 0 if there is none */
     JENTURIK_LAST = 7,       /* the last free node; 1 if the free list is empty */
@@ -118,7 +122,7 @@ enum {
     JENTURIK_LINKED = 3,     /* link: the target */
     JENTURIK_TAKEN = 4,      /* take: the node taken */
     JENTURIK_SHADED = 5,     /* shade, and the collector: the node shaded */
-    JENTURIK_LOOKED = 6,     /* the collector: looked at a node */
+    JENTURIK_LOOKED = 6,     /* the collector: looked at a node, or read an edge of it */
     JENTURIK_MADE_BLACK = 7, /* the collector: made a node black */
     JENTURIK_WHITENED = 8,   /* the collector: made a black node white; it is kept in this cycle */
     JENTURIK_APPENDED = 9,   /* the collector: appended a white node to the free list: its

@@ -11,7 +11,7 @@
 
 /* Node 4 hangs on the left of slot 0's node 2, slot 1's node 3 on its right, and 5, 6, 7, 8 are
  * free. */
-enum { M = 9, R = 2, ROOTS = 0, SCAN, LEFT, RIGHT, BLACK, APPEND };
+enum { M = 9, R = 2, ROOTS = 0, SCAN, LEFT, RIGHT, BLACK, APPEND, SHADE_LEFT };
 
 static const uint16_t bad_edges[] = {1, M, M + 1, 256 + 5, 65535},
                       bad_free[] = {1, 2, 3, M, M + 1, 65535};
@@ -138,10 +138,10 @@ static void collected_colours(void) {
         make_at(ROOTS, n), set_colour(n, bad_colours[i]);
         if (n <= R + 1) collect_refuses(14, n, 0, "a root's colour");
         make_at(SCAN, n), set_colour(n, bad_colours[i]), collect_refuses(14, n, 0, "scanned");
-        for (uint32_t phase = LEFT; phase <= RIGHT && n != 1; phase++) {
-            make_at(phase, 4), set_edge(4, phase - LEFT, (uint16_t)n);
-            set_edge(4, RIGHT - phase, 1), set_colour(n, bad_colours[i]);
-            collect_refuses(14, n, 0, "the successor's colour");
+        for (uint32_t side = 0; side < 2 && n != 1; side++) {
+            make_at(SHADE_LEFT + side, 4), bad.words[JENTURIK_READ] = n;
+            set_edge(4, 0, 1), set_edge(4, 1, 1), set_colour(n, bad_colours[i]);
+            collect_refuses(14, n, 0, "the colour of the number read");
         }
     }
 }
@@ -193,7 +193,9 @@ static void later_steps(void) {
     set_colour(2, 1), after_steps(2, 15, 2, 0, "gray"), set_colour(1, 9);
     after_steps(1, 14, 1, 0, "a colour where Append is");
     make_at(SCAN, 0), set_colour(6, 255), after_steps(6, 14, 6, 0, "a colour scanned");
-    make_at(LEFT, 4), set_edge(4, 1, M), after_steps(1, 7, 4, 1, "a right edge");
+    make_at(LEFT, 4), set_edge(4, 1, M), after_steps(2, 7, 4, 1, "a right edge");
+    make_at(LEFT, 4), set_edge(4, 0, 6), set_colour(6, 3),
+        after_steps(1, 14, 6, 0, "a number read");
     make_at(ROOTS, 0), set_colour(3, 3), after_steps(3, 14, 3, 0, "a root's colour");
     make_at(SCAN, 2), set_colour(2, 1), set_edge(2, 0, 1), after_steps(1, 7, 2, 0, "a left edge");
 }

@@ -83,9 +83,10 @@ static void random_record(uint32_t m) {
     uint32_t b;
     memset(&x, 0, sizeof x);
     x.m = m, x.r = 1 + below(m - 2 < 64 ? m - 2 : 64);
-    b = m * m + 5 * m + x.r + 2;
-    x.phase = one_in(3) ? below(6) : one_in(3) ? APPEND : SCAN;
+    b = m * m + 7 * m + x.r + 2;
+    x.phase = one_in(3) ? below(8) : one_in(3) ? APPEND : SCAN;
     x.i = x.phase == ROOTS ? below(x.r + 2) : below(m), x.k = 1 + below(m);
+    if (x.phase > APPEND) x.k = x.k == 1 ? 0 : x.k % m; /* the number read, mostly stale */
     x.owes = one_in(3), x.owed = x.owes ? below(m) : 0;
     if (x.owed == 1) x.owed = 0;
     x.last = one_in(2) || x.r + 2u >= m ? 1 : x.r + 2 + below(m - x.r - 2);
@@ -106,7 +107,7 @@ static void random_record(uint32_t m) {
         x.i = below(5000);
         break;
     case 3:
-        x.k = below(2) * (m + 1);
+        x.k = x.phase > APPEND ? one_in(2) ? 1 : m + below(3) : below(2) * (m + 1);
         break;
     case 4:
         x.owes = 1, x.owed = one_in(2) ? 1 : m + below(3);

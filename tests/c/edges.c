@@ -59,7 +59,7 @@ static void words_of_phase(uint32_t phase, uint32_t owes) {
         JENTURIK_NODES,     JENTURIK_SLOTS, JENTURIK_I,         JENTURIK_K,
         JENTURIK_OWED,      JENTURIK_LAST,  JENTURIK_BLACKENED, JENTURIK_BLACKENED_LAST_CYCLE,
         JENTURIK_FREE_COUNT};
-    static const uint32_t no_phase[] = {6, 7, 256, BIG}, no_owes[] = {2, 256, 257, BIG, BIG + 1};
+    static const uint32_t no_phase[] = {8, 9, 256, BIG}, no_owes[] = {2, 256, 257, BIG, BIG + 1};
     bad = sound;
     set_phase(&bad, phase, owes);
     for (size_t i = 0; i < sizeof wide / sizeof *wide; i++) too_wide(wide[i]);
@@ -75,7 +75,7 @@ static void words_of_phase(uint32_t phase, uint32_t owes) {
 
 /* Records that the words can hold, with a number out of its range. */
 static void numbers_of_phase(uint32_t phase) {
-    const uint32_t bound = M * M + 5 * M + R + 2;
+    const uint32_t bound = M * M + 7 * M + R + 2;
     bad = sound;
     set_phase(&bad, phase, 1);
     put_word(JENTURIK_NODES, 0, 1), put_word(JENTURIK_NODES, M + 1, 1),
@@ -84,6 +84,9 @@ static void numbers_of_phase(uint32_t phase) {
         put_word(JENTURIK_SLOTS, 65535, 1);
     put_word(JENTURIK_I, phase == 0 ? R + 2 : M, 2), put_word(JENTURIK_I, 65535, 2);
     if (phase == 1) put_word(JENTURIK_K, 0, 2), put_word(JENTURIK_K, M + 1, 2);
+    if (phase > 5)
+        put_word(JENTURIK_READ, 1, 2), put_word(JENTURIK_READ, M, 2),
+            put_word(JENTURIK_READ, M + 1, 2);
     put_word(JENTURIK_OWED, 1, 2), put_word(JENTURIK_OWED, M, 2);
     put_word(JENTURIK_LAST, 0, 2), put_word(JENTURIK_LAST, R + 1, 2), put_word(JENTURIK_LAST, M, 2);
     put_word(JENTURIK_BLACKENED, M + 1, 2), put_word(JENTURIK_BLACKENED_LAST_CYCLE, M + 1, 2);
@@ -91,6 +94,7 @@ static void numbers_of_phase(uint32_t phase) {
     put_word(JENTURIK_TOOK, bound + 1, 2), put_word(JENTURIK_TOOK, UINT32_MAX, 2);
     bad.words[JENTURIK_CYCLES] = UINT32_MAX, bad.words[JENTURIK_STEPS] = bound - 1,
     bad.words[JENTURIK_TOOK] = bound;
+    if (phase > 5) bad.words[JENTURIK_READ] = phase == 6 ? 0 : M - 1;
     lend(&t, &bad, 1);
     check(jenturik_look(LENT(&t), 0, 0, 0).code == 0, "a record at its limits is accepted", "look",
           (long)phase);
@@ -100,7 +104,8 @@ static void numbers_of_phase(uint32_t phase) {
 
 /* Whether words are a record's, by the header. */
 static int is_record(const uint32_t *w) {
-    int good = w[JENTURIK_PHASE] <= 5 && (w[JENTURIK_PHASE] == 1 || w[JENTURIK_K] == 0) &&
+    uint32_t phase = w[JENTURIK_PHASE];
+    int good = phase <= 7 && (phase == 1 || phase > 5 || w[JENTURIK_K] == 0) &&
                w[JENTURIK_OWES] <= 1 && (w[JENTURIK_OWES] == 1 || w[JENTURIK_OWED] == 0);
     for (int i = 0; i < JENTURIK_USED; i++)
         good = good &&
@@ -112,17 +117,17 @@ static int is_record(const uint32_t *w) {
 /* Random words: those that are no record's are refused with 2, and a refused call of either sort
  * leaves them. A call of one step that changes colours tells how many. */
 static void random_words(long count) {
-    static const uint32_t some[] = {0,       1,           2,           5,         6,   M,
-                                    255,     256,         257,         65535,     BIG, BIG + 1,
-                                    BIG + 5, 0x80000000u, 0xffff0000u, UINT32_MAX};
+    static const uint32_t some[] = {
+        0,   1,     2,   5,       7,       8,       M,           255,         256,
+        257, 65535, BIG, BIG + 1, BIG + 5, BIG + 7, 0x80000000u, 0xffff0000u, UINT32_MAX};
     int good = 1, kept = 1, counted = 1;
     bad = sound;
     for (long i = 0; i < count; i++) {
         int which = (int)below(CALLS);
         memcpy(bad.words, sound.words, sizeof bad.words);
-        set_phase(&bad, below(6), below(2));
+        set_phase(&bad, below(8), below(2));
         for (uint32_t n = below(4); n > 0; n--)
-            bad.words[below(JENTURIK_WORDS)] = below(2) ? some[below(16)] : below(9);
+            bad.words[below(JENTURIK_WORDS)] = below(2) ? some[below(18)] : below(9);
         lend(&t, &bad, (int)below(2));
         answer a = call(&t, which);
         take_back(&t, &after);
@@ -357,7 +362,7 @@ static void in_use_counts(void) {
 /* The same number whatever the colours are, in each phase, and with a shade owed or not. */
 static void in_use_reads(void) {
     bad = other, bad.right[3] = 7;
-    for (uint32_t phase = 0; phase < 6; phase++) {
+    for (uint32_t phase = 0; phase < 8; phase++) {
         set_phase(&bad, phase, phase % 2);
         for (uint32_t i = 0; i < M; i++) bad.colour[i] = (uint8_t)below(256);
         tells(0, 2, "any colours, each phase", (long)phase);
@@ -424,7 +429,7 @@ int main(void) {
     make_sound(&sound, M, R, 6);
     nulls();
     lengths();
-    for (uint32_t phase = 0; phase < 6; phase++)
+    for (uint32_t phase = 0; phase < 8; phase++)
         words_of_phase(phase, 0), words_of_phase(phase, 1), numbers_of_phase(phase);
     random_words(20000);
     fresh_edges();

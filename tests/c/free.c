@@ -94,7 +94,7 @@ static void before_others(uint32_t last, uint32_t count) {
 
 /* No edge and no colour is read: they may hold anything, and may be out of reach. */
 static void unread(void) {
-    for (uint32_t phase = 0; phase < 6; phase++) {
+    for (uint32_t phase = 0; phase < 8; phase++) {
         make_pair(M, R, 8, 3), set_phase(&bad, phase, phase % 2);
         for (uint32_t i = 0; i < M; i++)
             bad.left[i] = (uint16_t)below(65536), bad.right[i] = (uint16_t)below(65536),
@@ -251,7 +251,8 @@ static void append_many(uint32_t count, size_t done, uint32_t code, uint32_t las
 
 /* Steps of the other phases and of the editor leave the count. */
 static void others_keep(void) {
-    for (uint32_t phase = 0; phase < 5; phase++) {
+    for (uint32_t phase = 0; phase < 8; phase++) {
+        if (phase == 5) continue;
         make_pair(M, R, 8, 2), set_phase(&bad, phase, 0), bad.colour[1] = 1;
         lend(&t, &bad, 1);
         check(jenturik_collect(LENT(&t)).code == 0, "a step", "collect", (long)phase);
@@ -362,7 +363,7 @@ static void large_run(void) {
 int main(void) {
     trial_open();
     lists_open();
-    for (uint32_t phase = 0; phase < 6; phase++) pairs(phase, 0), pairs(phase, 1);
+    for (uint32_t phase = 0; phase < 8; phase++) pairs(phase, 0), pairs(phase, 1);
     limit(3, 1, 0), limit(4, 1, 1), limit(4, 2, 0), limit(5, 1, 2), limit(M, R, 5);
     limit(66, 64, 0), limit(67, 64, 1), limit(4096, 64, 4030), limit(4096, 1, 4093);
     before_others(1, 1), before_others(8, 0), before_others(8, 6);

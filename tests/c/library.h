@@ -30,7 +30,8 @@ static inline struct answer library_free_count(const struct table *t, const uint
 static inline void words_of(uint32_t *w, const struct record *x) {
     for (int i = JENTURIK_USED; i < JENTURIK_WORDS; i++) w[i] = 0;
     w[JENTURIK_NODES] = x->m, w[JENTURIK_SLOTS] = x->r;
-    w[JENTURIK_PHASE] = x->phase, w[JENTURIK_I] = x->i, w[JENTURIK_K] = x->phase == SCAN ? x->k : 0;
+    w[JENTURIK_PHASE] = x->phase, w[JENTURIK_I] = x->i;
+    w[JENTURIK_K] = x->phase == SCAN || x->phase > APPEND ? x->k : 0;
     w[JENTURIK_OWES] = x->owes, w[JENTURIK_OWED] = x->owes ? x->owed : 0;
     w[JENTURIK_LAST] = x->last, w[JENTURIK_STEPS] = x->steps, w[JENTURIK_CYCLES] = x->cycles;
     w[JENTURIK_TOOK] = x->took, w[JENTURIK_BLACKENED] = x->blackened;

@@ -13,10 +13,12 @@ static struct answer refuse(uint16_t code, uint16_t node, uint16_t detail) {
     return a;
 }
 
-static uint32_t bound(uint32_t m, uint32_t r) { return m * m + 5 * m + r + 2; }
+static uint32_t bound(uint32_t m, uint32_t r) { return m * m + 7 * m + r + 2; }
 
 /* The most nodes that can be free. */
 static uint32_t most_free(const struct record *x) { return x->m - x->r - 2; }
+
+static int shades(uint32_t phase) { return phase == SHADE_LEFT || phase == SHADE_RIGHT; }
 
 /* Codes 1 and 2. */
 int plain_check(const struct table *t, const struct record *x) {
@@ -25,6 +27,7 @@ int plain_check(const struct table *t, const struct record *x) {
     if (t->lefts != m || t->rights != m || t->colours != m) return 1;
     if (x->phase == ROOTS ? x->i > r + 1 : x->i >= m) return 2;
     if (x->phase == SCAN && (x->k < 1 || x->k > m)) return 2;
+    if (shades(x->phase) && (x->k == 1 || x->k >= m)) return 2;
     if (x->owes && (x->owed == 1 || x->owed >= m)) return 2;
     if (x->last != 1 && (x->last < r + 2 || x->last >= m)) return 2;
     if (x->blackened > m || x->lastblackened > m || x->steps >= b || x->took > b) return 2;
@@ -50,10 +53,12 @@ static inline struct answer shade_root(const struct table *t, struct record *x) 
     return a;
 }
 
-static inline struct answer shade_edge(const struct table *t, struct record *x, uint16_t e,
-                                       uint16_t phase) {
+static inline struct answer read_edge(struct record *x, uint16_t e, uint16_t phase) {
     if (e >= x->m || e == 1) return refuse(7, x->i, x->phase == RIGHT);
-    return shade(t, x, e, phase);
+    x->steps++;
+    x->phase = phase;
+    x->k = e;
+    return say(LOOKED, 0, x->i);
 }
 
 static inline uint16_t next(const struct record *x) { return x->i + 1 == x->m ? 0 : x->i + 1; }
@@ -127,9 +132,13 @@ static inline struct answer phase_step(const struct table *t, struct record *x) 
     case SCAN:
         return look(t, x);
     case LEFT:
-        return shade_edge(t, x, t->left[x->i], RIGHT);
+        return read_edge(x, t->left[x->i], SHADE_LEFT);
+    case SHADE_LEFT:
+        return shade(t, x, x->k, RIGHT);
     case RIGHT:
-        return shade_edge(t, x, t->right[x->i], BLACK);
+        return read_edge(x, t->right[x->i], SHADE_RIGHT);
+    case SHADE_RIGHT:
+        return shade(t, x, x->k, BLACK);
     case BLACK:
         return blacken(t, x);
     default:
@@ -259,8 +268,9 @@ static int read_record(struct record *x, const uint32_t *w) {
                     w[JENTURIK_BLACKENED_LAST_CYCLE] | w[JENTURIK_FREE_COUNT],
              unused = 0;
     for (int i = JENTURIK_USED; i < JENTURIK_WORDS; i++) unused |= w[i];
-    if (wide > 65535 || unused != 0 || w[JENTURIK_PHASE] > APPEND || w[JENTURIK_OWES] > 1) return 0;
-    if (w[JENTURIK_PHASE] != SCAN && w[JENTURIK_K] != 0) return 0;
+    if (wide > 65535 || unused != 0 || w[JENTURIK_PHASE] > SHADE_RIGHT || w[JENTURIK_OWES] > 1)
+        return 0;
+    if (w[JENTURIK_PHASE] != SCAN && !shades(w[JENTURIK_PHASE]) && w[JENTURIK_K] != 0) return 0;
     if (w[JENTURIK_OWES] == 0 && w[JENTURIK_OWED] != 0) return 0;
     x->m = w[JENTURIK_NODES], x->r = w[JENTURIK_SLOTS], x->phase = w[JENTURIK_PHASE];
     x->i = w[JENTURIK_I], x->k = w[JENTURIK_K], x->owes = w[JENTURIK_OWES];

@@ -5,7 +5,7 @@
 #include <stddef.h>
 #include <stdint.h>
 
-enum phase { ROOTS, SCAN, LEFT, RIGHT, BLACK, APPEND };
+enum phase { ROOTS, SCAN, LEFT, RIGHT, BLACK, APPEND, SHADE_LEFT, SHADE_RIGHT };
 enum kind {
     REFUSED,
     STARTED,
@@ -21,7 +21,8 @@ enum kind {
 };
 
 struct record {
-    uint16_t m, r, phase, i, k;
+    uint16_t m, r, phase, i;
+    uint16_t k;          /* Scan's k; in the phases that shade, the number read */
     uint16_t owes, owed; /* whether a shade is owed, and for which node */
     uint16_t last;
     uint32_t steps, cycles, took;

@@ -10,7 +10,7 @@ static table bad;
 static inline void set_phase(table *s, uint32_t phase, uint32_t owes) {
     s->words[JENTURIK_PHASE] = phase;
     s->words[JENTURIK_I] = 1;
-    s->words[JENTURIK_K] = phase == 1 ? 3 : 0;
+    s->words[JENTURIK_K] = phase == 1 || phase > 5 ? 3 : 0; /* k, or the number read */
     s->words[JENTURIK_OWES] = owes;
     s->words[JENTURIK_OWED] = 2 * owes;
 }

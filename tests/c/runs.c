@@ -94,7 +94,7 @@ static void many_against_single(int damaged, uint32_t tables) {
     uint32_t wrong = 0;
     size_t refused = 0;
     for (uint32_t i = 0; i < tables; i++) {
-        uint32_t m = 3 + below(30), r = 1 + below(m - 2), bound = m * m + 5 * m + r + 2;
+        uint32_t m = 3 + below(30), r = 1 + below(m - 2), bound = m * m + 7 * m + r + 2;
         make_sound(&start, m, r, below(12));
         for (int n = 0; damaged && n < 3; n++) damage(m);
         wrong += !alike(0, (int)(i % 2)) || !alike(1, (int)(i % 2)) || !alike(below(bound), 0) ||
@@ -170,7 +170,7 @@ static void large_table(void) {
     take_back(&t, &start);
     check(alike(100000, 0), "collect_many does what single steps do", "4096 nodes", 100000);
     lend(&t, &start, 1);
-    jenturik_last a = jenturik_collect_many(LENT(&t), (size_t)3 * (4096 * 4096 + 5 * 4096 + 3));
+    jenturik_last a = jenturik_collect_many(LENT(&t), (size_t)3 * (4096 * 4096 + 7 * 4096 + 3));
     check(a.code == 0 && t.w[JENTURIK_CYCLES] >= 3, "three cycles in so many steps", "4096 nodes",
           (long)t.w[JENTURIK_CYCLES]);
 }
@@ -301,12 +301,12 @@ static void unused_words(uint32_t kind) {
 }
 
 /* A fresh table of 7 nodes and a slot, lent with node n in this colour, and the collector in this
- * phase at it. */
+ * phase at it; where the phase shades a number read, that is n too. */
 static void lend_coloured(uint32_t n, uint8_t colour, uint32_t phase) {
     make_fresh(&start, 7, 1);
     start.colour[n] = colour;
     start.words[JENTURIK_PHASE] = phase, start.words[JENTURIK_I] = n;
-    start.words[JENTURIK_K] = phase == 1 ? 7 : 0;
+    start.words[JENTURIK_K] = phase == 1 ? 7 : phase > 5 ? n : 0;
     lend_start((int)(n % 2));
 }
 
@@ -318,9 +318,13 @@ static void colours_of_steps(void) {
         lend_coloured(2, colour, 1);
         check(changed(jenturik_collect(LENT(&t)), 0), "looks at a node", "collect", colour);
         lend_coloured(4, colour, 2), t.l[4] = 4;
+        check(changed(jenturik_collect(LENT(&t)), 0), "reads the left edge", "collect", colour);
+        lend_coloured(4, colour, 6), t.l[4] = 5;
         check(changed(jenturik_collect(LENT(&t)), colour == 0), "shades on the left", "collect",
               colour);
         lend_coloured(4, colour, 3), t.r[4] = 4;
+        check(changed(jenturik_collect(LENT(&t)), 0), "reads the right edge", "collect", colour);
+        lend_coloured(4, colour, 7), t.r[4] = 5;
         check(changed(jenturik_collect(LENT(&t)), colour == 0), "shades on the right", "collect",
               colour);
         lend_coloured(4, colour, 4);
@@ -336,6 +340,52 @@ static void colours_of_steps(void) {
     lend_coloured(4, 1, 5);
     check(told(jenturik_collect(LENT(&t)), 0, JENTURIK_NOT_TO_APPEND, 4), "refuses a gray node",
           "collect", 1);
+}
+
+/* Whether the record is in a phase, at node 2, with this number read, or 0 where none is. */
+static int stands(uint32_t phase, uint32_t read) {
+    return t.w[JENTURIK_PHASE] == phase && t.w[JENTURIK_I] == 2 && t.w[JENTURIK_READ] == read;
+}
+
+/* The two steps of Left and of Right at node 2: the first reads the edge and keeps the number; the
+ * second shades it, although the edge has moved meanwhile [Edges 5], and judges its colour. A bad
+ * edge is refused by the first alone. */
+static void read_and_shade(uint32_t side) {
+    lend_coloured(2, 1, 2 + side);
+    (side == 0 ? t.l : t.r)[2] = 5;
+    check(told(jenturik_collect(LENT(&t)), JENTURIK_LOOKED, 0, 2), "reads", "collect", (long)side);
+    check(stands(6 + side, 5) && t.c[5] == 0, "keeps the number", "collect", (long)side);
+    (side == 0 ? t.l : t.r)[2] = 1;
+    t.c[5] = 3;
+    check(told(jenturik_collect(LENT(&t)), 0, JENTURIK_BAD_COLOUR, 5), "judges the colour",
+          "collect", (long)side);
+    check(stands(6 + side, 5), "keeps the number", "collect", (long)side);
+    (side == 0 ? t.l : t.r)[2] = 6;
+    t.c[5] = 0;
+    check(told(jenturik_collect(LENT(&t)), JENTURIK_SHADED, 0, 5), "shades the number", "collect",
+          (long)side);
+    check(stands(3 + side, 0) && t.c[5] == 1 && t.c[6] == 0, "the edge's node stays white",
+          "collect", (long)side);
+    lend_coloured(2, 1, 2 + side);
+    (side == 0 ? t.l : t.r)[2] = 1;
+    jenturik_told a = jenturik_collect(LENT(&t));
+    check(a.code == JENTURIK_BAD_EDGE && a.node == 2 && a.detail == side && stands(2 + side, 0),
+          "judges the edge", "collect", (long)side);
+}
+
+/* Many steps at once from a number read, stale or not, do what single ones do [Many 1]. */
+static void stale_numbers(uint32_t side) {
+    uint32_t wrong = 0;
+    for (uint32_t read = 0; read < 7; read++) {
+        if (read == 1) continue;
+        for (size_t n = 0; n < 102; n++) {
+            lend_coloured(2, 1, 6 + side);
+            start.words[JENTURIK_READ] = read;
+            start.left[2] = (uint16_t)(n % 2 == 0 ? 2 : 0);
+            wrong += !alike(n, (int)(n % 2));
+        }
+    }
+    check(wrong == 0, "collect_many from a number read", "collect_many", (long)wrong);
 }
 
 /* Take shades the first free node, 3, and the second, 4, which may be the same or none. Link
@@ -420,7 +470,7 @@ static void reading_only(void) {
 static void in_use_along_runs(uint32_t tables) {
     uint32_t wrong = 0, quiet = 0, most = 0;
     for (uint32_t i = 0; i < tables; i++) {
-        uint32_t m = 3 + below(30), r = 1 + below(m - 2), bound = m * m + 5 * m + r + 2;
+        uint32_t m = 3 + below(30), r = 1 + below(m - 2), bound = m * m + 7 * m + r + 2;
         make_sound(&start, m, r, below(12));
         lend(&t, &start, (int)(i % 2));
         jenturik_told a = ask(&t);
@@ -448,6 +498,7 @@ int main(void) {
     every_code();
     nil_owed();
     schedules();
+    for (uint32_t side = 0; side < 2; side++) read_and_shade(side), stale_numbers(side);
     colours_of_steps();
     colours_of_edits();
     colours_of_cycles(3, 1), colours_of_cycles(9, 2), colours_of_cycles(40, 7);

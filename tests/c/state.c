@@ -12,6 +12,9 @@
  * - state --load: jenturik_load.
  * - state --inuse, state --free: jenturik_in_use, jenturik_free_count, which may write nothing.
  *
+ * A line has k and the number read apart, each in its own phases; the library's words have one word
+ * for both.
+ *
  * Lines have numbers of 64 bits, the library's have 32: a larger one becomes the largest. Both
  * refuse either where they read it; a record's number that does not fit its words would show as a
  * difference. */
@@ -72,14 +75,23 @@ static size_t read_list(uint32_t *list) {
     return n;
 }
 
+/* Whether the words' phase is one that shades a number read. */
+static int shades(const uint32_t *words) {
+    return words[JENTURIK_PHASE] == 6 || words[JENTURIK_PHASE] == 7;
+}
+
 static void read_state(void) {
     memset(given.words, 0, sizeof given.words);
     for (int i = 0; i < JENTURIK_USED; i++) given.words[i] = word();
+    uint32_t read = word();
+    if (shades(given.words)) given.words[JENTURIK_READ] = read;
     read_arrays();
 }
 
 static void put_state(const table *s) {
-    for (int i = 0; i < JENTURIK_USED; i++) put(s->words[i]);
+    for (int i = 0; i < JENTURIK_USED; i++)
+        put(i == JENTURIK_K && shades(s->words) ? 0 : s->words[i]);
+    put(shades(s->words) ? s->words[JENTURIK_READ] : 0);
     for (int i = JENTURIK_USED; i < JENTURIK_WORDS; i++)
         if (s->words[i] != 0) fence_fail("a word that has no use is not 0");
     put(s->lefts);

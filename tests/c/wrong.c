@@ -79,8 +79,29 @@ static uint32_t most_free(const uint32_t *words) {
     return words[JENTURIK_NODES] - words[JENTURIK_SLOTS] - 2;
 }
 
-/* The words as a call judges them that overlooks a bad free count: a count that passes stands in
- * its place. */
+/* The most steps of a cycle. */
+static uint32_t bound(const uint32_t *words) {
+    uint32_t m = words[JENTURIK_NODES];
+    return m * m + 7 * m + words[JENTURIK_SLOTS] + 2;
+}
+
+/* Whether the next step reads an edge, or shades a number read; and the edge of either. */
+static int reads(const uint32_t *words) {
+    return words[JENTURIK_PHASE] == 2 || words[JENTURIK_PHASE] == 3;
+}
+
+static int shades(const uint32_t *words) {
+    return words[JENTURIK_PHASE] == 6 || words[JENTURIK_PHASE] == 7;
+}
+
+static uint32_t edge(const uint16_t *left, const uint16_t *right, const uint32_t *words) {
+    return (words[JENTURIK_PHASE] % 2 == 0 ? left : right)[words[JENTURIK_I]];
+}
+
+static int good(uint32_t e, const uint32_t *words) { return e != 1 && e < words[JENTURIK_NODES]; }
+
+/* The words as a call judges them that overlooks a bad free count, a bad number read or too many
+ * steps: what passes stands in its place. */
 static const uint32_t *overlooked(const uint32_t *words) {
     static uint32_t other[JENTURIK_WORDS];
     uint32_t *count = other + JENTURIK_FREE_COUNT, last = words[JENTURIK_LAST];
@@ -89,6 +110,15 @@ static const uint32_t *overlooked(const uint32_t *words) {
     if (wrong(76) && *count != 0 && last == 1) *count = 0; /* some, and last is 1 */
     if (wrong(77) && *count == 0 && last != 1) *count = 1; /* 0, and last is not */
     if (wrong(78)) *count &= 0xffff;                       /* the upper half */
+    uint32_t read = words[JENTURIK_READ], steps = words[JENTURIK_STEPS], b = bound(words);
+    if (wrong(146) && shades(words) && read == 1) other[JENTURIK_READ] = 0; /* 1 was read */
+    if (wrong(147) && shades(words) && read == words[JENTURIK_NODES])
+        other[JENTURIK_READ] = 0;                                    /* M was read */
+    if (wrong(148) && shades(words)) other[JENTURIK_READ] &= 0xffff; /* the upper half */
+    if (wrong(149) && steps == b) other[JENTURIK_STEPS]--;           /* B, and one more */
+    if (wrong(150) && steps < b && steps >= b - 2 * words[JENTURIK_NODES])
+        other[JENTURIK_STEPS] = UINT32_MAX;                                  /* B of larger steps */
+    if (wrong(151) && words[JENTURIK_PHASE] == 8) other[JENTURIK_PHASE] = 0; /* a ninth phase */
     return other;
 }
 
@@ -300,8 +330,46 @@ jenturik_told __wrap_jenturik_take(ARRAYS, uint32_t *words, PLACE, uint32_t side
     return count_wrongly(tell_wrongly(a));
 }
 
+/* A reading step, told or done wrongly; e is the edge read. */
+static jenturik_told read_wrongly(jenturik_told a, uint8_t *colour, uint32_t e, uint32_t *words) {
+    if (wrong(152)) a.what = JENTURIK_SHADED, a.node = e; /* tells the node to be shaded */
+    if (wrong(153) && colour[e] == 0) colour[e] = 1;      /* shades at once */
+    if (wrong(154)) words[JENTURIK_READ] = 0;             /* keeps no number */
+    if (wrong(155)) words[JENTURIK_PHASE] ^= 1;           /* goes on with the other side */
+    return a;
+}
+
+/* A shading step; n is the number read, e the edge as it is now. */
+static jenturik_told shade_wrongly(jenturik_told a, uint8_t *colour, uint32_t n, uint32_t e,
+                                   uint32_t *words) {
+    if (wrong(156)) a.node = words[JENTURIK_I];                     /* tells i */
+    if (wrong(157)) a.what = JENTURIK_LOOKED;                       /* tells another deed */
+    if (wrong(158)) words[JENTURIK_READ] = n;                       /* keeps the number */
+    if (wrong(159) && e != n) colour[n] = before[n], a.changed = 0; /* not a stale number */
+    return a;
+}
+
+/* One step, with Left and Right wrong in some way. */
+static jenturik_told collect_wrongly(ARRAYS, uint32_t *words) {
+    int passes = __real_jenturik_collect_many(TABLE, 0).code == 0;
+    int read = passes && reads(words), shade = passes && shades(words);
+    uint32_t e = read || shade ? edge(left, right, words) : 0, n = words[JENTURIK_READ];
+    jenturik_told a = {0};
+    keep(colour, colours);
+    if (wrong(160) && shade && good(e, words)) words[JENTURIK_READ] = e; /* where it leads now */
+    if (wrong(161) && shade && !good(e, words))                          /* judges the edge again */
+        return a.code = 7, a.node = words[JENTURIK_I], a.detail = words[JENTURIK_PHASE] == 7, a;
+    if (wrong(162) && read && good(e, words) && colour[e] > 2) /* judges the colour too soon */
+        return a.code = 14, a.node = e, a;
+    a = __real_jenturik_collect(TABLE);
+    if (read && a.code == 0) a = read_wrongly(a, colour, e, words);
+    if (shade && a.code == 0) a = shade_wrongly(a, colour, n, e, words);
+    if (wrong(163) && shade && a.code == 14) a.node = words[JENTURIK_I]; /* the colour of i */
+    return a;
+}
+
 jenturik_told __wrap_jenturik_collect(ARRAYS, uint32_t *words) {
-    jenturik_told a = __real_jenturik_collect(TABLE);
+    jenturik_told a = collect_wrongly(TABLE);
     if (wrong(10) && a.what == JENTURIK_APPENDED) left[lefts] = 0; /* writes behind the array */
     if (wrong(11) && a.what == JENTURIK_APPENDED)
         a.what = JENTURIK_WHITENED;                                /* tells another deed */
@@ -342,8 +410,11 @@ static jenturik_last past_the_limit(ARRAYS, uint32_t *words, size_t n) {
 jenturik_last __wrap_jenturik_collect_many(ARRAYS, uint32_t *words, size_t n) {
     uint32_t had = words[JENTURIK_FREE_COUNT];
     keep(colour, colours);
-    if (wrong(107)) return past_the_limit(TABLE, n); /* goes on */
-    if (wrong(69)) return the_last(TABLE, n);        /* the last step's colours alone */
+    if (wrong(164) && __real_jenturik_collect_many(TABLE, 0).code == 0 && shades(words) &&
+        good(edge(left, right, words), words))
+        words[JENTURIK_READ] = edge(left, right, words); /* reads again where it begins */
+    if (wrong(107)) return past_the_limit(TABLE, n);     /* goes on */
+    if (wrong(69)) return the_last(TABLE, n);            /* the last step's colours alone */
     jenturik_last a = __real_jenturik_collect_many(
         TABLE, wrong(12) && n > 500 ? n - 1 : n); /* one step too few of many */
     if (wrong(12) && n > 500 && a.code == 0) a.done++;

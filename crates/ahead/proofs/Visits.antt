@@ -1,4 +1,5 @@
--- At a gray node with two good edges four steps are: shade, shade, blacken.
+-- At a gray node with two good edges six steps are: shade, shade, blacken. No editor comes between
+-- them, so each number read is shaded while its edge still leads there.
 use Prim.Native.Nat.{ℕ, _+_, _≤_, _<_}
 use mathlib.Core.Path.{_≡_, refl, sym, ap, _∙_}
 use mathlib.Core.Bool.{Bool, true, false}
@@ -11,12 +12,13 @@ use native.Mathlib.Omega.{arith}
 use Rattle.base.proofs.Tests.{split, pick-yes, pick-no, lt-no, le-no, eq-yes, eq-no, or-skip}
 use Rattle.rules.specs.declared.Record.{Record}
 use Rattle.rules.specs.declared.Phase.{Phase}
-use Rattle.rules.specs.declared.Phase.the-variants.{Scan, Left, Right, Black}
+use Rattle.rules.specs.declared.Phase.the-variants.{Scan, Left, ShadeLeft, Right}
+use Rattle.rules.specs.declared.Phase.the-variants.{ShadeRight, Black}
 use Rattle.rules.specs.declared.Answer.the-variants.{Looked, Shaded, Blackened}
 use Rattle.rules.specs.Table.{State, state, did, colourOf, edgeOf, shadeIn, shade, badEdge}
 use Rattle.rules.specs.Records.{withSteps, moved, rescan}
 use Rattle.rules.specs.Check.{bound}
-use Rattle.rules.specs.Collector.{shadeStep, scanStep, edgeStep, blackStep, phaseStep}
+use Rattle.rules.specs.Collector.{shadeStep, scanStep, readStep, blackStep, phaseStep}
 use Rattle.rules.specs.Changes.{differing}
 use Rattle.rules.proofs.Changes.{unchanged, one-blackened, shaded-length, two-shaded}
 use Rattle.rules.proofs.Checked.{good, inside}
@@ -25,7 +27,7 @@ use Rattle.ahead.proofs.Strides.{then, free-fits, step-on}
 
 -- the record after the visit of node i
 abbrev pub visited : Record → ℕ → Record
-visited x i = withSteps (rescan x i) (x .steps + 4)
+visited x i = withSteps (rescan x i) (x .steps + 6)
 
 look-gray : (s : State) (i k : ℕ) → colourOf s i ≡ 1 → did (Looked i) s (moved (s .rec) (Left i))
     ≡ phaseStep s (Scan i k)
@@ -33,12 +35,16 @@ unfolding phaseStep scanStep
 look-gray s i k h =
     pick-no _ _ _ _ (lt-no 2 (colourOf s i) (omega arith)) (pick-yes _ _ _ _ (eq-yes _ _ h) refl)
 
-edge-on : (s : State) (i side e : ℕ) (p : Phase) → CanShade (s .rec .m) (s .colour) e
-    → did (Shaded e) (shade s e) (moved (s .rec) p) ≡ edgeStep s i side e p
-unfolding edgeStep shadeStep badEdge
-edge-on s i side e p f =
-    pick-no _ _ _ _ (or-skip _ _ _ (le-no _ _ (f .below)) (eq-no _ _ (f .not-free)))
-    (pick-no _ _ _ _ (lt-no _ _ (f .colour)) refl)
+read-on : (s : State) (i side e : ℕ) (p : Phase) → CanShade (s .rec .m) (s .colour) e
+    → did (Looked i) s (moved (s .rec) p) ≡ readStep s i side e p
+unfolding readStep badEdge
+read-on s i side e p f =
+    pick-no _ _ _ _ (or-skip _ _ _ (le-no _ _ (f .below)) (eq-no _ _ (f .not-free))) refl
+
+shade-on : (s : State) (e : ℕ) (p : Phase) → CanShade (s .rec .m) (s .colour) e
+    → did (Shaded e) (shade s e) (moved (s .rec) p) ≡ shadeStep s e p
+unfolding shadeStep
+shade-on s e p f = pick-no _ _ _ _ (lt-no _ _ (f .colour)) refl
 
 -- shading a node leaves good colours good
 still-can-shade : (m : ℕ) (c : List ℕ) (e f : ℕ) → e < length c → CanShade m c f
@@ -80,8 +86,8 @@ module _ (l r c : List ℕ) (x : Record) (i k : ℕ) (p : Passes (state l r c x)
       one-blackened _ i (omega (arith, s .0, g .colours)) (λ z. omega arith)
 
   pub visits : getD c i 0 ≡ 1 → CanShade (x .m) c (getD l i 0) → CanShade (x .m) c (getD r i 0)
-      → x .steps + 4 < bound 2 (x .m) (x .r) → x .blackened < x .m
-      → Leads (state l r c x) 4 (differing c (shadeIn (shadeIn c (getD l i 0)) (getD r i 0)) + 1)
+      → x .steps + 6 < bound 2 (x .m) (x .r) → x .blackened < x .m
+      → Leads (state l r c x) 6 (differing c (shadeIn (shadeIn c (getD l i 0)) (getD r i 0)) + 1)
       (state l r (set (shadeIn (shadeIn c (getD l i 0)) (getD r i 0)) i 2) (visited x i))
   unfolding phaseStep blackStep edgeOf
   visits gray left right room dark =
@@ -89,8 +95,10 @@ module _ (l r c : List ℕ) (x : Record) (i k : ℕ) (p : Passes (state l r c x)
       let e = getD l i 0 in
       let f = getD r i 0 in
       let y1 = moved x (Left i) in
-      let y2 = moved y1 (Right i) in
-      let y3 = moved y2 (Black i) in
+      let z1 = moved y1 (ShadeLeft i e) in
+      let y2 = moved z1 (Right i) in
+      let z2 = moved y2 (ShadeRight i f) in
+      let y3 = moved z2 (Black i) in
       let c1 = shadeIn c e in
       let c2 = shadeIn c1 f in
       let v1 = differing c c1 in
@@ -99,20 +107,31 @@ module _ (l r c : List ℕ) (x : Record) (i k : ℕ) (p : Passes (state l r c x)
       step-on (state l r c x) (did (Looked i) (state l r c x) y1) 0 p
       (look-gray (state l r c x) i k gray ∙ ap (phaseStep (state l r c x)) (sym h)) refl
       (g .blackened) (omega arith) (free-fits p) (unchanged c) in
+      let b1 =
+      step-on (state l r c y1) _ 0 (a1 .passes)
+      (read-on (state l r c y1) i 0 e (ShadeLeft i e) left) refl (g .blackened) (omega arith)
+      (free-fits (a1 .passes)) (unchanged c) in
       let a2 =
-      step-on (state l r c y1) _ v1 (a1 .passes) (edge-on (state l r c y1) i 0 e (Right i) left)
-      refl (g .blackened) (omega arith) (free-fits (a1 .passes)) refl in
+      step-on (state l r c z1) _ v1 (b1 .passes) (shade-on (state l r c z1) e (Right i) left) refl
+      (g .blackened) (omega arith) (free-fits (b1 .passes)) refl in
+      let right1 = still-can-shade _ c e f (omega (arith, g, left)) right in
+      let b2 =
+      step-on (state l r c1 y2) _ 0 (a2 .passes)
+      (read-on (state l r c1 y2) i 1 f (ShadeRight i f) right1) refl (g .blackened) (omega arith)
+      (free-fits (a2 .passes)) (unchanged c1) in
       let a3 =
-      step-on (state l r c1 y2) _ v2 (a2 .passes)
-      (edge-on (state l r c1 y2) i 1 f (Black i)
-      (still-can-shade _ c e f (omega (arith, g, left)) right)) refl (g .blackened) (omega arith)
-      (free-fits (a2 .passes)) refl in
+      step-on (state l r c1 z2) _ v2 (b2 .passes) (shade-on (state l r c1 z2) f (Black i) right1)
+      refl (g .blackened) (omega arith) (free-fits (b2 .passes)) refl in
       let a4 =
       step-on (state l r c2 y3) (did (Blackened i) (state l r (set c2 i 2) y3) (rescan y3 i)) 1
       (a3 .passes) refl refl (omega arith) (omega arith) (free-fits (a3 .passes))
       (one-black e f gray) in
-      let z : x .steps + 1 + 1 + 1 + 1 ≡ x .steps + 4 = omega arith in
+      let z : x .steps + 1 + 1 + 1 + 1 + 1 + 1 ≡ x .steps + 6 = omega arith in
       let two = two-shaded c e f (omega (arith, g, left)) (omega (arith, g, right)) in
       let all : differing c c2 + 1 ≡ 0 + (v1 + (v2 + 1)) = omega arith in
-      rw (z) at (then _ _ _ 1 3 _ 0 _ _ refl all a1
-      (then _ _ _ 1 2 _ v1 _ _ refl refl a2 (then _ _ _ 1 1 _ v2 1 _ refl refl a3 a4)))
+      let none : v1 + (v2 + 1) ≡ 0 + (v1 + (v2 + 1)) = omega arith in
+      let none2 : v2 + 1 ≡ 0 + (v2 + 1) = omega arith in
+      rw (z) at (then _ _ _ 1 5 _ 0 _ _ refl all a1
+      (then _ _ _ 1 4 _ 0 _ _ refl none b1
+      (then _ _ _ 1 3 _ v1 _ _ refl refl a2
+      (then _ _ _ 1 2 _ 0 _ _ refl none2 b2 (then _ _ _ 1 1 _ v2 1 _ refl refl a3 a4)))))

@@ -7,13 +7,14 @@ use Rattle.base.specs.Choice.{pick}
 use Rattle.base.proofs.Tests.{split}
 use Rattle.rules.specs.Table.{State, Outcome, unless}
 use Rattle.rules.specs.Check.{checkOf, check}
-use Rattle.rules.specs.Collector.{shadeStep, scanStep, edgeStep, blackStep, appendWhite}
+use Rattle.rules.specs.Collector.{shadeStep, scanStep, readStep, blackStep, appendWhite}
 use Rattle.rules.specs.Collector.{appendStep, phaseStep, collect}
 use Rattle.rules.specs.Steps.{step, collecting, codeOf, detailOf}
 use Rattle.rules.specs.declared.Answer.{Answer}
 use Rattle.rules.specs.declared.Answer.the-variants.{Named}
 use Rattle.rules.specs.declared.Phase.{Phase}
-use Rattle.rules.specs.declared.Phase.the-variants.{Roots, Scan, Left, Right, Black, Append}
+use Rattle.rules.specs.declared.Phase.the-variants.{Roots, Scan, Left, ShadeLeft, Right}
+use Rattle.rules.specs.declared.Phase.the-variants.{ShadeRight, Black, Append}
 use Rattle.rules.proofs.Laws.{step-collecting}
 use Rattle.batch.specs.Last.{answering, lastAnswer}
 
@@ -39,13 +40,15 @@ module _ (s : State) where
   shades n then = either _ _ _ (omega arith, omega arith) (omega arith, omega arith)
 
   phases : (p : Phase) → Fits (phaseStep s p)
-  unfolding phaseStep scanStep edgeStep blackStep appendStep appendWhite
+  unfolding phaseStep scanStep readStep blackStep appendStep appendWhite
   phases (Roots i) = shades i _
   phases (Scan i k) =
       either _ _ _ (omega arith, omega arith) (either _ _ _ (omega arith, omega arith)
       (either _ _ _ (omega arith, omega arith) (omega arith, omega arith)))
-  phases (Left i) = either _ _ _ (omega arith, omega arith) (shades _ _)
-  phases (Right i) = either _ _ _ (omega arith, omega arith) (shades _ _)
+  phases (Left i) = either _ _ _ (omega arith, omega arith) (omega arith, omega arith)
+  phases (ShadeLeft i n) = shades n _
+  phases (Right i) = either _ _ _ (omega arith, omega arith) (omega arith, omega arith)
+  phases (ShadeRight i n) = shades n _
   phases (Black i) = (omega arith, omega arith)
   phases (Append i) =
       either _ _ _ (omega arith, omega arith)

@@ -8,11 +8,11 @@ ghost use mathlib.Core.List.{List};
 ghost use Prim.Native.Nat.{ℕ, _+_, _<_, _≤_};
 ghost use lib.ListN.{length, set};
 ghost use Rattle.rules.specs.Table.{mostSlots, table, state, handed, outcome, black};
-ghost use Rattle.rules.specs.Collector.{shadeStep, afterRoots, scanStep, edgeStep, blackStep};
+ghost use Rattle.rules.specs.Collector.{shadeStep, afterRoots, scanStep, readStep, blackStep};
 ghost use Rattle.rules.specs.Collector.{appendWhite, appendStep, phaseStep};
 ghost use Rattle.rules.specs.Steps.{step, collecting};
 ghost use Rattle.rules.specs.Changes.{differing, changes};
-ghost use Rattle.rules.specs.Facts.{Checked, InRange};
+ghost use Rattle.rules.specs.Facts.{manySteps, Checked, InRange};
 ghost use Rattle.rules.specs.declared.Phase.the-variants.{Scan};
 ghost use Rattle.base.specs.Lent.{was, is};
 ghost use Rattle.rules.specs.Lent.{given, leaves};
@@ -82,17 +82,21 @@ fn scan_step(colour: &[u8], x: Record, i: u16, k: u16) -> Made
     }
 }
 
-// Left i or Right i: shades e, the edge of node i on that side, and goes on to a phase.
-fn edge_step(colour: &mut [u8], x: Record, i: u16, side: u8, e: u16, then: Phase) -> Made
-    requires { ⌜ Checked (x .m) (x .m) (length (now colour)) x ⌝ }
-    ensures { λ r. ⌜ ((es : List (List ℕ)) → handed r es (is colour)
-        ≡ edgeStep (table es (was colour) x) i side e then) ⌝ }
-    ensures { λ r. ⌜ r .changed ≡ differing (was colour) (is colour) ⌝ }
+// Left i or Right i: e is the edge of node i on that side, and `then` the phase that shades it.
+fn read_step(x: Record, i: u16, side: u8, e: u16, then: Phase) -> Made
+    requires { ⌜ x .steps < manySteps ⌝ }
+    ensures { λ r. ⌜ ((es : List (List ℕ)) (c : List ℕ) → handed r es c
+        ≡ readStep (table es c x) i side e then) ⌝ }
+    ensures { λ r. ⌜ r .changed ≡ 0 ⌝ }
 {
     if table::bad_edge(x.m, e) {
         return rules::refusal_with(7, i, side, x);
     }
-    shade_step(colour, x, e, then)
+    Made {
+        answer: Answer::Looked(i),
+        changed: 0,
+        rec: x.moved(then),
+    }
 }
 
 // [Changes 1] Makes node n black, whatever its colour: 1 where it was not, else 0.
@@ -192,22 +196,16 @@ pub fn phase_step(
     match phase {
         Phase::Roots(i) => shade_step(colour, x, i, after_roots(x.m, x.r, i)),
         Phase::Scan(i, k) => scan_step(colour, x, i, k),
-        Phase::Left(i) => edge_step(
-            colour,
-            x,
-            i,
-            rules::LEFT,
-            table::edge(left, right, 0, i),
-            Phase::Right(i),
-        ),
-        Phase::Right(i) => edge_step(
-            colour,
-            x,
-            i,
-            rules::RIGHT,
-            table::edge(left, right, 1, i),
-            Phase::Black(i),
-        ),
+        Phase::Left(i) => {
+            let e = table::edge(left, right, 0, i);
+            read_step(x, i, rules::LEFT, e, Phase::ShadeLeft(i, e))
+        }
+        Phase::ShadeLeft(i, n) => shade_step(colour, x, n, Phase::Right(i)),
+        Phase::Right(i) => {
+            let e = table::edge(left, right, 1, i);
+            read_step(x, i, rules::RIGHT, e, Phase::ShadeRight(i, e))
+        }
+        Phase::ShadeRight(i, n) => shade_step(colour, x, n, Phase::Black(i)),
         Phase::Black(i) => black_step(colour, x, i),
         Phase::Append(i) => append_step(left, right, colour, x, i),
     }

@@ -14,7 +14,7 @@ use Rattle.rules.specs.Fresh.{tabulate, nextFree, freshLeft, freshLast, freshSt
 use Rattle.rules.specs.Places.{sidesOk, turnsOk, placeCode, walkFrom, arrive}
 use Rattle.rules.specs.Editor.{sideCode, owedCode, look, depart, linkTo, link, pay, shadeOwed}
 use Rattle.rules.specs.Editor.{badFree, relink, takeNext, takeFirst, take}
-use Rattle.rules.specs.Collector.{shadeStep, afterRoots, scanStep, edgeStep, blackStep, append}
+use Rattle.rules.specs.Collector.{shadeStep, afterRoots, scanStep, readStep, blackStep, append}
 use Rattle.rules.specs.Collector.{appendWhite, appendStep, phaseStep, collect}
 use Rattle.rules.specs.Phases.{position}
 use Rattle.rules.specs.Steps.{step, run, taking, linking, shading, collecting, looking, codeOf}
@@ -56,7 +56,7 @@ five = starts 5 1 .state
 
 -- after a cycle without an edit
 abbrev quiet : State
-quiet = run (collects 33) five
+quiet = run (collects 43) five
 
 -- cycles completed, steps of this one, of the last one, nodes blackened by the last marking
 abbrev counts : State → List ℕ
@@ -101,24 +101,24 @@ figure c t = record { computed = c; told = t }
 
 abbrev pub table : List Figure
 table =
-    -- [Figures 1] left edges, last, Take; the counts after 20, 21 and 42 steps; B
+    -- [Figures 1] left edges, last, Take; the counts after 26, 27 and 54 steps; B
     figure
     (getD (three .edges) 0 [] ∷ (three .rec .last ∷ []) ∷ answers (taking (at 0 0) 0 ∷ []) three ++
-    counts (run (collects 20) three) ∷ counts (run (collects 21) three) ∷ counts
-    (run (collects 42) three) ∷ (bound 2 3 1 ∷ []) ∷ [])
-    ((0 ∷ 0 ∷ 0 ∷ []) ∷ (1 ∷ []) ∷ (9 ∷ 0 ∷ []) ∷ (0 ∷ 20 ∷ 0 ∷ 3 ∷ []) ∷ (1 ∷ 0 ∷ 21 ∷ 3 ∷ []) ∷
-    (2 ∷ 0 ∷ 21 ∷ 3 ∷ []) ∷ (27 ∷ []) ∷ []) ∷
-    -- [Figures 2] left edges, last, B; the counts after 32 and 33 steps
+    counts (run (collects 26) three) ∷ counts (run (collects 27) three) ∷ counts
+    (run (collects 54) three) ∷ (bound 2 3 1 ∷ []) ∷ [])
+    ((0 ∷ 0 ∷ 0 ∷ []) ∷ (1 ∷ []) ∷ (9 ∷ 0 ∷ []) ∷ (0 ∷ 26 ∷ 0 ∷ 3 ∷ []) ∷ (1 ∷ 0 ∷ 27 ∷ 3 ∷ []) ∷
+    (2 ∷ 0 ∷ 27 ∷ 3 ∷ []) ∷ (33 ∷ []) ∷ []) ∷
+    -- [Figures 2] left edges, last, B; the counts after 42 and 43 steps
     figure
     (getD (five .edges) 0 [] ∷ (five .rec .last ∷ []) ∷ (bound 2 5 1 ∷ []) ∷ counts
-    (run (collects 32) five) ∷ counts (run (collects 33) five) ∷ [])
-    ((0 ∷ 3 ∷ 0 ∷ 4 ∷ 0 ∷ []) ∷ (4 ∷ []) ∷ (53 ∷ []) ∷ (0 ∷ 32 ∷ 0 ∷ 5 ∷ []) ∷
-    (1 ∷ 0 ∷ 33 ∷ 5 ∷ []) ∷ []) ∷
+    (run (collects 42) five) ∷ counts (run (collects 43) five) ∷ [])
+    ((0 ∷ 3 ∷ 0 ∷ 4 ∷ 0 ∷ []) ∷ (4 ∷ []) ∷ (63 ∷ []) ∷ (0 ∷ 42 ∷ 0 ∷ 5 ∷ []) ∷
+    (1 ∷ 0 ∷ 43 ∷ 5 ∷ []) ∷ []) ∷
     -- [Figures 3] the first line, the five edits, collect (its code and node) and look
     figure
     (shown (starts 5 1 .answer) ∷ answers edits five ++
-    (codeOf (step collecting (worked 61) .answer) ∷ position (worked 61 .rec .phase) ∷ []) ∷
-    answers (looking (at 1 0) ∷ []) (worked 62))
+    (codeOf (step collecting (worked 79) .answer) ∷ position (worked 79 .rec .phase) ∷ []) ∷
+    answers (looking (at 1 0) ∷ []) (worked 80))
     ((0 ∷ 4 ∷ []) ∷ (0 ∷ 3 ∷ []) ∷ (0 ∷ 4 ∷ []) ∷ (9 ∷ 0 ∷ []) ∷ (0 ∷ 4 ∷ []) ∷ (0 ∷ 4 ∷ []) ∷
     (0 ∷ 3 ∷ []) ∷ (0 ∷ 4 ∷ []) ∷ []) ∷
     -- [Figures 4] node 3 before the collecting: it is no root, no edge leads to it, and it is gray
@@ -126,13 +126,13 @@ table =
     ((edgesTo 3 (getD (worked 0 .edges) 0 []) ∷ edgesTo 3 (getD (worked 0 .edges) 1 []) ∷ getD
     (worked 0 .colour) 3 0 ∷ []) ∷ [])
     ((0 ∷ 0 ∷ 1 ∷ []) ∷ []) ∷
-    -- [Figures 4] the counts and node 3's colour after the first cycle; the counts before step 62
+    -- [Figures 4] the counts and node 3's colour after the first cycle; the counts before step 80
     -- and the node that it appends; the counts after the second cycle
     figure
-    (counts (worked 33) ∷ (getD (worked 33 .colour) 3 0 ∷ []) ∷ counts
-    (worked 61) ∷ (appended (step collecting (worked 61) .answer) ∷ []) ∷ counts
-    (worked 63) ∷ [])
-    ((1 ∷ 0 ∷ 33 ∷ 5 ∷ []) ∷ (0 ∷ []) ∷ (1 ∷ 28 ∷ 33 ∷ 4 ∷ []) ∷ (3 ∷ []) ∷ (2 ∷ 0 ∷ 30 ∷ 4 ∷ []) ∷
+    (counts (worked 43) ∷ (getD (worked 43 .colour) 3 0 ∷ []) ∷ counts
+    (worked 79) ∷ (appended (step collecting (worked 79) .answer) ∷ []) ∷ counts
+    (worked 81) ∷ [])
+    ((1 ∷ 0 ∷ 43 ∷ 5 ∷ []) ∷ (0 ∷ []) ∷ (1 ∷ 36 ∷ 43 ∷ 4 ∷ []) ∷ (3 ∷ []) ∷ (2 ∷ 0 ∷ 38 ∷ 4 ∷ []) ∷
     []) ∷
     -- [Figures 5]
     figure
@@ -154,9 +154,9 @@ table =
     (inUse (run (taking (at 0 0) 0 ∷ []) quiet)) ∷ [])
     ((5 ∷ []) ∷ (0 ∷ 0 ∷ []) ∷ (0 ∷ 1 ∷ []) ∷ []) ∷
     -- [Free count 1] in the table of [Figures 3]: when it is fresh, after the edits, which take both
-    -- free nodes, and after the collector's step 62, which appends one; and of [Figures 1]
+    -- free nodes, and after the collector's step 80, which appends one; and of [Figures 1]
     figure
-    (shown (freeCount five) ∷ shown (freeCount (worked 0)) ∷ shown (freeCount (worked 62)) ∷ shown
+    (shown (freeCount five) ∷ shown (freeCount (worked 0)) ∷ shown (freeCount (worked 80)) ∷ shown
     (freeCount three) ∷ [])
     ((0 ∷ 2 ∷ []) ∷ (0 ∷ 0 ∷ []) ∷ (0 ∷ 1 ∷ []) ∷ (0 ∷ 0 ∷ []) ∷ []) ∷
     []
@@ -169,9 +169,9 @@ Agrees (f ∷ fs) = (f .computed ≡ f .told) × Agrees fs
 pub figures : Agrees table
 unfolding pick every first unless edgeOf withEdge cleared shadeIn badEdge oneMore afterAppend sizeOk
     positionOk secondOk phaseOk owedOk lastOk freeOk bound cycleOk toldOk countsOk recordOk checkOf
-    tabulate nextFree freshLeft freshLast freshState fresh sidesOk turnsOk placeCode walkFrom arrive sideCode owedCode
-    look depart linkTo link pay shadeOwed badFree relink takeNext takeFirst take shadeStep
-    afterRoots scanStep edgeStep blackStep append appendWhite appendStep phaseStep collect step run
+    tabulate nextFree freshLeft freshLast freshState fresh sidesOk turnsOk placeCode walkFrom arrive
+    sideCode owedCode look depart linkTo link pay shadeOwed badFree relink takeNext takeFirst take shadeStep
+    afterRoots scanStep readStep blackStep append appendWhite appendStep phaseStep collect step run
     collects blank visit visitSlots visitEdges visitFrom meet lowest anyEdge isHurt firstHurt
     countMet inUse freeCount
 figures = (refl, (refl, (refl, (refl, (refl, (refl, (refl, (refl, (refl, (refl, tt))))))))))

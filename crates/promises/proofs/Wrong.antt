@@ -23,7 +23,7 @@ use Rattle.rules.specs.Fresh.{tabulate, nextFree, freshLeft, freshLast, freshSt
 use Rattle.rules.specs.Places.{sidesOk, turnsOk, placeCode, walkFrom, walk, arrive}
 use Rattle.rules.specs.Editor.{sideCode, owedCode, look, depart, linkTo, link, pay, shadeOwed}
 use Rattle.rules.specs.Editor.{badFree, relink, takeNext, takeFirst, take}
-use Rattle.rules.specs.Collector.{shadeStep, afterRoots, scanStep, edgeStep, blackStep, append}
+use Rattle.rules.specs.Collector.{shadeStep, afterRoots, scanStep, readStep, blackStep, append}
 use Rattle.rules.specs.Collector.{appendWhite, appendStep, phaseStep, collect}
 use Rattle.rules.specs.Steps.{step, run, source, target, taking, linking, shading, collecting}
 use Rattle.rules.specs.Steps.{looking, codeOf, nodeOf, detailOf}
@@ -205,7 +205,7 @@ two = run (taking (at 0 0) 0 ∷ taking (at 0 0) 1 ∷ []) five
 -- node 3 is garbage with a right edge, and is appended by the next step
 abbrev litter : State
 litter =
-    run (collects 56)
+    run (collects 72)
     (run (taking (at 0 0) 0 ∷ taking (at 1 0) 1 ∷ linking (at 0 0) 0 (at 1 1) ∷ shading ∷ [])
     five)
 
@@ -266,11 +266,11 @@ table =
     row refusesAll collecting three code 2 0 ∷
     row looksOnly collecting three (λ o. deed (o .answer)) 5 4 ∷
     row writesNothing collecting three (colour 0) 0 1 ∷
-    row honestOnce collecting (run (collects 21) three) (colour 0) 0 1 ∷
+    row honestOnce collecting (run (collects 27) three) (colour 0) 0 1 ∷
     row inventsSteps collecting three (λ o. o .state .rec .steps) 2 1 ∷
     row inventsLastBlackened collecting three (λ o. o .state .rec .lastblackened) 3 0 ∷
     row shadesFirst (linking (at 0 0) 0 (at 1 1)) two (λ o. edge (o .state) left 2) 3 4 ∷
-    row passesOnce collecting (run (collects 6) three) (λ o. second (o .state .rec .phase)) 2 3 ∷
+    row passesOnce collecting (run (collects 8) three) (λ o. second (o .state .rec .phase)) 2 3 ∷
     row blackensTarget (linking (at 0 0) 0 (at 1 1)) two (colour 4) 2 1 ∷
     row keepsRight collecting litter (λ o. edge (o .state) right 3) 4 0 ∷
     row keepsLast (taking (at 0 0) 1) one (λ o. o .state .rec .last) 4 1 ∷
@@ -286,7 +286,7 @@ table =
     row tellsLess (looking (at 1 1)) (invented (made (Roots 0) Nothing 4 0)) detail 0 1 ∷
     row (asks withoutOwed) collecting (invented (made (Roots 0) (Node 1) 4 0)) code 0 2 ∷
     row (asks withoutLast) collecting (invented (made (Roots 0) Nothing 2 0)) code 0 2 ∷
-    row (asks withoutSteps) collecting (invented (made (Roots 0) Nothing 4 53)) code 0 2 ∷
+    row (asks withoutSteps) collecting (invented (made (Roots 0) Nothing 4 63)) code 0 2 ∷
     row (asks withoutFree) collecting (invented (frees 3)) code 0 2 ∷
     row (asks withoutFree) collecting (invented (frees 0)) code 0 2 ∷
     []
@@ -309,8 +309,8 @@ not-promised r c e =
 pub ruled-out : every (map caught table) ≡ true
 unfolding pick every first unless edgeOf withEdge cleared shadeIn badEdge oneMore afterAppend sizeOk
     positionOk secondOk phaseOk owedOk lastOk freeOk bound cycleOk toldOk countsOk recordOk checkOf
-    tabulate nextFree freshLeft freshLast freshState fresh sidesOk turnsOk placeCode walkFrom arrive sideCode owedCode
-    look depart linkTo link pay shadeOwed badFree relink takeNext takeFirst take shadeStep
-    afterRoots scanStep edgeStep blackStep append appendWhite appendStep phaseStep collect step run
+    tabulate nextFree freshLeft freshLast freshState fresh sidesOk turnsOk placeCode walkFrom arrive
+    sideCode owedCode look depart linkTo link pay shadeOwed badFree relink takeNext takeFirst take shadeStep
+    afterRoots scanStep readStep blackStep append appendWhite appendStep phaseStep collect step run
     collects
 ruled-out = refl

@@ -1,15 +1,16 @@
 -- Where codes 1 and 2 are not given, the record and the lengths are good: the tests as facts.
 use Prim.Native.Nat.{ℕ, zero, suc, _+_, _≤_, _<_}
-use mathlib.Core.Bool.{Bool, true, false, _||_}
+use mathlib.Core.Bool.{Bool, true, false, _||_, not, true≢false}
 use mathlib.Core.List.{List, [], _∷_}
 use lib.ListN.{length}
 use mathlib.Core.Path.{_≡_, refl, sym}
+use mathlib.Core.Logic.{_≢_}
 use native.Mathlib.Omega.{arith}
 use lib.Dec.{ltb, leb, eqb}
-use borrow.Author.Tests.{ltb-true, leb-true, eqb-true}
+use borrow.Author.Tests.{ltb-true, leb-true, eqb-true, eqb-false}
 use Rattle.base.specs.Choice.{every, pick}
-use Rattle.base.proofs.Tests.{each, facts, split, tests}
-use Rattle.rules.specs.Table.{mostNodes}
+use Rattle.base.proofs.Tests.{each, facts, split, not-yes, tests}
+use Rattle.rules.specs.Table.{mostNodes, FREE}
 use Rattle.rules.specs.Phases.{scanTag, hasSecond}
 use Rattle.rules.specs.Check.{sizeOk, positionOk, secondOk, phaseOk, owedOk, lastOk, freeOk}
 use Rattle.rules.specs.Check.{bound, cycleOk, toldOk, countsOk, recordOk, checkOf}
@@ -49,17 +50,31 @@ position-of m r (suc tag) i e =
     split (λ (b : Bool). b ≡ true → i < m) (eqb (suc tag) 0) _ _
     (λ q k. absurd (omega (arith, eqb-true (suc tag) 0 q))) (λ q k. ltb-true _ _ k) e
 
-second-of : (m tag k : ℕ) → secondOk m tag k ≡ true → Limited tag k
-unfolding secondOk pick
+-- a number read that passes
+read-of : (m k : ℕ) (b : Bool) → pick b (every (not (eqb k FREE) ∷ ltb k m ∷ [])) true ≡ true
+    → b ≡ true → (k ≢ 1) × (k < m)
+unfolding pick
+read-of m k true e h =
+    let f = each _ (sym e) in (eqb-false k FREE (sym (not-yes _ (f .0))), omega facts)
+read-of m k false e h = absurd (true≢false (sym h))
+
+second-of : (m tag k : ℕ) → secondOk m tag k ≡ true → Limited m tag k
+unfolding secondOk
 second-of m zero k e = tt
-second-of m (suc zero) k e = let f = each _ (sym e) in omega facts
-second-of m (suc (suc tag)) k e = tt
+second-of m (suc zero) k e =
+    split (λ (b : Bool). b ≡ true → 1 ≤ k) (eqb 1 scanTag) _ _
+    (λ q h. let f = each _ (sym h) in omega facts) (λ q h. absurd (true≢false q)) e
+second-of m (suc (suc tag)) k e =
+    split (λ (b : Bool). b ≡ true → Limited m (suc (suc tag)) k) (eqb (suc (suc tag)) scanTag) _ _
+    (λ q h. absurd (omega (arith, eqb-true (suc (suc tag)) scanTag q))) (λ q h. read-of m k _ h) e
 
 second-high : (m tag k : ℕ) → secondOk m tag k ≡ true → (hasSecond tag ≡ false → k ≡ 0) → k ≤ m
 unfolding secondOk
 second-high m tag k e z =
     split (λ (b : Bool). b ≡ true → k ≤ m) (eqb tag scanTag) _ _
-    (λ q h. let f = each _ (sym h) in omega facts) (λ q h. omega (arith, z q)) e
+    (λ q h. let f = each _ (sym h) in omega facts)
+    (λ q. split (λ (b : Bool). b ≡ true → k ≤ m) (hasSecond tag) _ _
+    (λ a h. let f = each _ (sym h) in omega facts) (λ a h. omega (arith, z a))) e
 
 inside-of : (m r : ℕ) (p : Phase) → phaseOk m r p ≡ true → InRange m r p
 unfolding phaseOk

@@ -18,7 +18,7 @@ use Rattle.rules.specs.Check.{sizeOk, checkOf, check}
 use Rattle.rules.specs.Places.{placeCode, walkFrom, walk, arrive}
 use Rattle.rules.specs.Editor.{sideCode, owedCode, look, depart, linkTo, link, pay}
 use Rattle.rules.specs.Editor.{shadeOwed, badFree, takeNext, takeFirst, take}
-use Rattle.rules.specs.Collector.{shadeStep, scanStep, edgeStep, blackStep, appendWhite}
+use Rattle.rules.specs.Collector.{shadeStep, scanStep, readStep, blackStep, appendWhite}
 use Rattle.rules.specs.Collector.{appendStep, phaseStep, collect}
 use Rattle.rules.specs.Steps.{step, codeOf, detailOf}
 use Rattle.rules.specs.Damage.{Bad, BadFree, Means, done, bad-edge, bad-free, bad-colour}
@@ -32,7 +32,8 @@ use Rattle.rules.specs.declared.Walk.the-variants.{At, Damaged}
 use Rattle.rules.specs.declared.Owed.{Owed}
 use Rattle.rules.specs.declared.Owed.the-variants.{Nothing, Node}
 use Rattle.rules.specs.declared.Phase.{Phase}
-use Rattle.rules.specs.declared.Phase.the-variants.{Roots, Scan, Left, Right, Black, Append}
+use Rattle.rules.specs.declared.Phase.the-variants.{Roots, Scan, Left, ShadeLeft, Right}
+use Rattle.rules.specs.declared.Phase.the-variants.{ShadeRight, Black, Append}
 use Rattle.rules.proofs.Checked.{passes}
 
 -- a code of those that are judged before the table is read
@@ -168,9 +169,9 @@ module _ (s : State) where
     unfolding shadeStep
     shades n then = split Good _ _ _ (λ q. bad-colour (ltb-true _ _ q)) (λ q. done refl refl)
 
-    follows : (i side : ℕ) (then : Phase) → Good (edgeStep s i side (edge s side i) then)
-    unfolding edgeStep
-    follows i side then = split Good _ _ _ (λ q. damaged side i q) (λ q. shades _ then)
+    reads : (i side : ℕ) (then : Phase) → Good (readStep s i side (edge s side i) then)
+    unfolding readStep
+    reads i side then = split Good _ _ _ (λ q. damaged side i q) (λ q. done refl refl)
 
     appends : (i : ℕ) → s .rec .phase ≡ Append i → Good (appendStep s i)
     unfolding appendStep appendWhite
@@ -191,8 +192,10 @@ module _ (s : State) where
         split Good _ _ _ (λ q. bad-colour (ltb-true _ _ q))
         (λ q. split Good _ _ _ (λ a. done refl refl)
         (λ a. split Good _ _ _ (λ b. done refl refl) (λ b. done refl refl)))
-    phases (Left i) e = follows i left _
-    phases (Right i) e = follows i right _
+    phases (Left i) e = reads i left _
+    phases (ShadeLeft i n) e = shades n _
+    phases (Right i) e = reads i right _
+    phases (ShadeRight i n) e = shades n _
     phases (Black i) e = done refl refl
     phases (Append i) e = appends i e
 

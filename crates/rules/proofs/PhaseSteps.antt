@@ -2,28 +2,36 @@
 -- these holds of every collector step, so only this file goes through the phases.
 use Prim.Native.Nat.{ℕ, _+_, _-_, _≤_, _<_}
 use mathlib.Core.Path.{_≡_, refl, sym, _∙_}
-use mathlib.Core.Bool.{Bool, true, false, true≢false}
+use mathlib.Core.Bool.{Bool, true, false, not, _||_, true≢false}
 use mathlib.Core.List.{[], _∷_}
+use mathlib.Core.Logic.{_≢_}
 use native.Mathlib.Omega.{arith}
 use native.Mathlib.Nat.{mod-lt}
-use lib.Dec.{ltb, leb}
+use lib.Dec.{ltb, leb, eqb}
 use borrow.Author.Tests.{leb-false, eqb-true, eqb-false}
 use Rattle.base.specs.Choice.{pick, every}
-use Rattle.base.proofs.Tests.{split, le-yes, lt-yes, eq-no, pick-no, every-skip, every-last}
-use Rattle.rules.specs.Table.{State, Outcome, did, unless, white, black, withColour}
-use Rattle.rules.specs.Table.{shade}
-use Rattle.rules.specs.Phases.{rootsTag, tagOf, position, second, hasSecond}
+use Rattle.base.proofs.Tests.{split, le-yes, lt-yes, eq-no, or-skip, pick-yes, pick-no}
+use Rattle.base.proofs.Tests.{not-is, every-skip, every-last}
+use Rattle.rules.specs.Table.{State, Outcome, did, unless, white, black, edge, withColour}
+use Rattle.rules.specs.Table.{shade, FREE, badEdge}
+use Rattle.rules.specs.Phases.{rootsTag, scanTag, appendTag, shadeLeftTag, tagOf, position}
+use Rattle.rules.specs.Phases.{second, hasSecond}
 use Rattle.rules.specs.Records.{withLast, moreFree, moved, marked, next, rescan, afterAppend}
 use Rattle.rules.specs.Check.{positionOk, secondOk, phaseOk, check}
 use Rattle.rules.specs.Facts.{InRange}
-use Rattle.rules.specs.Collector.{shadeStep, afterRoots, scanStep, edgeStep, blackStep}
+use Rattle.rules.specs.Collector.{shadeStep, afterRoots, scanStep, readStep, blackStep}
 use Rattle.rules.specs.Collector.{append, appendWhite, appendStep, phaseStep, collect}
 use Rattle.rules.specs.declared.Answer.{Answer}
 use Rattle.rules.specs.declared.Answer.the-variants.{Shaded, Looked, Blackened, Whitened}
 use Rattle.rules.specs.declared.Answer.the-variants.{Appended}
 use Rattle.rules.specs.declared.Phase.{Phase}
-use Rattle.rules.specs.declared.Phase.the-variants.{Roots, Scan, Left, Right, Black, Append}
+use Rattle.rules.specs.declared.Phase.the-variants.{Roots, Scan, Left, ShadeLeft, Right}
+use Rattle.rules.specs.declared.Phase.the-variants.{ShadeRight, Black, Append}
 use Rattle.rules.proofs.Checked.{m-low, inside}
+
+or-no : (a b : Bool) → a || b ≡ false → a ≡ false
+or-no true b e = e
+or-no false b e = refl
 
 only-first : (z a b : Bool) → z ≡ a → true ≡ b → z ≡ every (a ∷ b ∷ [])
 unfolding every
@@ -41,7 +49,29 @@ pub node-test : (m r : ℕ) (p : Phase) → rootsTag < tagOf p → hasSecond (ta
 unfolding phaseOk positionOk secondOk
 node-test m r p t e =
     only-first _ _ _ (pick-no _ _ _ _ (eq-no (tagOf p) rootsTag (λ z. omega arith)) refl)
-    (pick-no _ _ _ _ (sym e) refl)
+    (pick-no _ _ _ _ (sym (or-no _ (leb shadeLeftTag (tagOf p)) e)) (pick-no _ _ _ _ (sym e) refl))
+
+flat : (z a b c d : Bool) → z ≡ a → every (b ∷ c ∷ []) ≡ d
+    → every (z ∷ b ∷ c ∷ []) ≡ every (a ∷ d ∷ [])
+unfolding every
+flat true a b c d h k = rw (← h, ← k) (last-two b c)
+  where
+    last-two : (b c : Bool) → every (true ∷ b ∷ c ∷ []) ≡ every (true ∷ every (b ∷ c ∷ []) ∷ [])
+    last-two true true = refl
+    last-two true false = refl
+    last-two false c = refl
+flat false a b c d h k = rw (← h) refl
+
+-- of one that has a number read
+pub read-test : (m r : ℕ) (p : Phase) → appendTag < tagOf p
+    → every (ltb (position p) m ∷ not (eqb (second p) FREE) ∷ ltb (second p) m ∷ [])
+    ≡ phaseOk m r p
+unfolding phaseOk positionOk secondOk
+read-test m r p t =
+    flat _ _ _ _ _ (pick-no _ _ _ _ (eq-no (tagOf p) rootsTag (λ z. omega arith)) refl)
+    (pick-no _ _ _ _ (eq-no (tagOf p) scanTag (λ z. omega arith))
+    (pick-yes _ _ _ _ (or-skip _ _ _ (eq-no (tagOf p) scanTag (λ z. omega arith))
+    (le-yes shadeLeftTag (tagOf p) (omega arith))) refl))
 
 -- what passes it
 pub roots-ok : (m r i : ℕ) → i ≤ r + 1 → true ≡ phaseOk m r (Roots i)
@@ -58,6 +88,13 @@ both-ok m r p t h k =
 pub node-ok : (m r : ℕ) (p : Phase) → rootsTag < tagOf p → hasSecond (tagOf p) ≡ false
     → position p < m → true ≡ phaseOk m r p
 node-ok m r p t e h = lt-yes _ _ h ∙ node-test m r p t e
+
+-- a phase that has a number read
+pub read-ok : (m r : ℕ) (p : Phase) → appendTag < tagOf p → position p < m → second p ≢ 1
+    → second p < m → true ≡ phaseOk m r p
+read-ok m r p t h n l =
+    every-skip _ _ _ (lt-yes _ _ h) (every-skip _ _ _ (not-is _ (eq-no (second p) FREE n))
+    (every-last _ _ (lt-yes _ _ l))) ∙ read-test m r p t
 
 pub scan-ok : (m r i k : ℕ) → i < m → 1 ≤ k → k ≤ m → true ≡ phaseOk m r (Scan i k)
 unfolding secondOk pick
@@ -80,15 +117,24 @@ pub record Covers (s : State) (P : Outcome → Type 0) : Type 0 where
   pub appends : (i : ℕ) → s .rec .r + 1 < i → i < s .rec .m
       → P (did (Appended i) (append s i) (afterAppend (moreFree (withLast (s .rec) i)) i))
 
+none-of : (a b : Bool) → a || b ≡ false → (a ≡ false) × (b ≡ false)
+none-of true b e = absurd (true≢false e)
+none-of false b e = (refl, e)
+
 module _ {s : State} {P : Outcome → Type 0} (w : Covers s P) (low : 3 ≤ s .rec .m) where
   shading : (n : ℕ) (p : Phase) → true ≡ phaseOk (s .rec .m) (s .rec .r) p → P (shadeStep s n p)
   unfolding shadeStep
   shading n p h = split P _ _ _ (λ e. w .stays _) (λ e. w .shades n p h)
 
-  edging : (i side n : ℕ) (p : Phase) → true ≡ phaseOk (s .rec .m) (s .rec .r) p
-      → P (edgeStep s i side n p)
-  unfolding edgeStep
-  edging i side n p h = split P _ _ _ (λ e. w .stays _) (λ e. shading n p h)
+  -- a number read that is not bad
+  reading : (i side n : ℕ) (p : Phase)
+      → (n ≢ 1 → n < s .rec .m → true ≡ phaseOk (s .rec .m) (s .rec .r) p)
+      → P (readStep s i side n p)
+  unfolding readStep badEdge
+  reading i side n p h =
+      split P _ _ _ (λ e. w .stays _) (λ e.
+      let q = none-of _ _ e in
+      w .looks i p (h (eqb-false _ _ (q .1)) (leb-false _ _ (q .0))))
 
   after-roots : (i : ℕ) → i ≤ s .rec .r + 1
       → true ≡ phaseOk (s .rec .m) (s .rec .r) (afterRoots (s .rec .m) (s .rec .r) i)
@@ -123,8 +169,12 @@ module _ {s : State} {P : Outcome → Type 0} (w : Covers s P) (low : 3 ≤ s .r
   unfolding phaseStep blackStep
   comes (Roots i) h = shading i _ (after-roots i (h .0))
   comes (Scan i k) h = scanning i k (h .0) (h .1) (h .2)
-  comes (Left i) h = edging i _ _ _ (node-ok _ _ (Right i) (omega arith) refl (h .0))
-  comes (Right i) h = edging i _ _ _ (node-ok _ _ (Black i) (omega arith) refl (h .0))
+  comes (Left i) h =
+      reading i _ _ _ (λ a b. read-ok _ _ (ShadeLeft i _) (omega arith) (h .0) a b)
+  comes (ShadeLeft i n) h = shading n _ (node-ok _ _ (Right i) (omega arith) refl (h .0))
+  comes (Right i) h =
+      reading i _ _ _ (λ a b. read-ok _ _ (ShadeRight i _) (omega arith) (h .0) a b)
+  comes (ShadeRight i n) h = shading n _ (node-ok _ _ (Black i) (omega arith) refl (h .0))
   comes (Black i) h = w .blackens i (h .0)
   comes (Append i) h = appending i (h .0)
 

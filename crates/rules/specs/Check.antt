@@ -6,7 +6,7 @@ use mathlib.Core.List.{List, [], _∷_, _++_, map}
 use lib.ListN.{length}
 use lib.Dec.{ltb, leb, eqb}
 use Rattle.rules.specs.Table.{State, FREE, mostNodes, mostSlots}
-use Rattle.rules.specs.Phases.{rootsTag, scanTag, tagOf, position, second}
+use Rattle.rules.specs.Phases.{rootsTag, scanTag, tagOf, position, second, hasSecond}
 use Rattle.rules.specs.declared.Record.{Record}
 use Rattle.rules.specs.declared.Phase.{Phase}
 use Rattle.rules.specs.declared.Owed.{Owed}
@@ -23,9 +23,11 @@ sizeOk m r edges colours =
 unfoldable pub positionOk : ℕ → ℕ → ℕ → ℕ → Bool
 positionOk m r tag i = pick (eqb tag rootsTag) (leb i (r + 1)) (ltb i m)
 
--- [Record 3] Scan's k is not 0 and not above M
+-- [Record 3] Scan's k is not 0 and not above M; [Record 14] a number read is not FREE and below M
 unfoldable pub secondOk : ℕ → ℕ → ℕ → Bool
-secondOk m tag k = pick (eqb tag scanTag) (every (leb 1 k ∷ leb k m ∷ [])) true
+secondOk m tag k =
+    pick (eqb tag scanTag) (every (leb 1 k ∷ leb k m ∷ []))
+    (pick (hasSecond tag) (every (not (eqb k FREE) ∷ ltb k m ∷ [])) true)
 
 unfoldable pub phaseOk : ℕ → ℕ → Phase → Bool
 phaseOk m r p =
@@ -48,7 +50,7 @@ freeOk m r last n =
 
 -- [Record 11] B, where a node has E edges; the rule is for two
 unfoldable pub bound : ℕ → ℕ → ℕ → ℕ
-bound E m r = m * m + (3 + E) * m + r + 2
+bound E m r = m * m + (3 + 2 * E) * m + r + 2
 
 -- [Codes 2] what the cycle counts, b being B
 unfoldable pub cycleOk : Record → ℕ → Bool

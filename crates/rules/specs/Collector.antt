@@ -11,7 +11,8 @@ use Rattle.rules.specs.Table.{shade, badEdge, badColour}
 use Rattle.rules.specs.Records.{withLast, moreFree, moved, marked, next, rescan, afterAppend}
 use Rattle.rules.specs.Check.{check}
 use Rattle.rules.specs.declared.Phase.{Phase}
-use Rattle.rules.specs.declared.Phase.the-variants.{Roots, Scan, Left, Right, Black, Append}
+use Rattle.rules.specs.declared.Phase.the-variants.{Roots, Scan, Left, ShadeLeft, Right}
+use Rattle.rules.specs.declared.Phase.the-variants.{ShadeRight, Black, Append}
 use Rattle.rules.specs.declared.Answer.the-variants.{Shaded, Looked, Blackened, Whitened}
 use Rattle.rules.specs.declared.Answer.the-variants.{Appended}
 
@@ -33,11 +34,11 @@ scanStep s i k =
     (pick (eqb k 1) (did (Looked i) s (marked (s .rec)))
     (did (Looked i) s (moved (s .rec) (Scan (next (s .rec) i) (k - 1))))))
 
--- [Edges 3] the edge e of node i on a side is judged, then the colour of the node that it leads to,
--- which is shaded; [Edges 4] whichever node i is
-unfoldable pub edgeStep : State → ℕ → ℕ → ℕ → Phase → Outcome
-edgeStep s i side e then =
-    pick (badEdge (s .rec .m) e) (refuseWith s 7 i side) (shadeStep s e then)
+-- [Edges 3] the edge e of node i on a side is read and judged, [Edges 4] whichever node i is
+unfoldable pub readStep : State → ℕ → ℕ → ℕ → Phase → Outcome
+readStep s i side e then =
+    pick (badEdge (s .rec .m) e) (refuseWith s 7 i side)
+    (did (Looked i) s (moved (s .rec) then))
 
 -- [Black 1] node i is black now; nothing is read. [Black 2] The scan begins anew. [Black 3]
 unfoldable pub blackStep : State → ℕ → Outcome
@@ -65,12 +66,15 @@ appendStep s i =
     (pick (badColour s i) (refuse s 14 i) (refuseWith s 15 i grayNode)))
 
 -- [Collector 1] one step, that of the phase: [Roots 1] Roots, [Edges 1] Left, [Edges 2] Right.
+-- [Edges 5] What shades goes by the number read, wherever the edge leads now.
 -- [Collector 4] The shade owed is not looked at.
 unfoldable pub phaseStep : State → Phase → Outcome
 phaseStep s (Roots i) = shadeStep s i (afterRoots (s .rec .m) (s .rec .r) i)
 phaseStep s (Scan i k) = scanStep s i k
-phaseStep s (Left i) = edgeStep s i left (edge s left i) (Right i)
-phaseStep s (Right i) = edgeStep s i right (edge s right i) (Black i)
+phaseStep s (Left i) = readStep s i left (edge s left i) (ShadeLeft i (edge s left i))
+phaseStep s (ShadeLeft i n) = shadeStep s n (Right i)
+phaseStep s (Right i) = readStep s i right (edge s right i) (ShadeRight i (edge s right i))
+phaseStep s (ShadeRight i n) = shadeStep s n (Black i)
 phaseStep s (Black i) = blackStep s i
 phaseStep s (Append i) = appendStep s i
 

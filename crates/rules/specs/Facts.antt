@@ -2,8 +2,10 @@
 -- rests on this file.
 use Prim.Native.Nat.{ℕ, zero, suc, _+_, _≤_, _<_}
 use mathlib.Core.Path.{_≡_}
+use mathlib.Core.Logic.{_≢_}
+use mathlib.Core.Bool.{true}
 use Rattle.rules.specs.Table.{mostNodes, mostSlots}
-use Rattle.rules.specs.Phases.{tagOf, position, second}
+use Rattle.rules.specs.Phases.{tagOf, position, second, hasSecond}
 use Rattle.rules.specs.declared.Record.{Record}
 use Rattle.rules.specs.declared.Phase.{Phase}
 use Rattle.rules.specs.declared.Owed.{Owed}
@@ -18,16 +20,16 @@ abbrev pub Inside : ℕ → ℕ → ℕ → ℕ → Type 0
 Inside m r zero i = i ≤ r + 1
 Inside m r (suc tag) i = i < m
 
--- what else a second number is: 1 is Scan
-abbrev pub Limited : ℕ → ℕ → Type 0
-Limited zero k = Unit {0}
-Limited (suc zero) k = 1 ≤ k
-Limited (suc (suc tag)) k = Unit {0}
+-- what else a second number is: 1 is Scan; the last two are a number read
+abbrev pub Limited : ℕ → ℕ → ℕ → Type 0
+Limited m zero k = Unit {0}
+Limited m (suc zero) k = 1 ≤ k
+Limited m (suc (suc tag)) k = (hasSecond (suc (suc tag)) ≡ true) → (k ≢ 1) × (k < m)
 
 -- a phase whose numbers are in their ranges
 abbrev pub InRange : ℕ → ℕ → Phase → Type 0
 InRange m r p =
-    Inside m r (tagOf p) (position p) × (second p ≤ m) × Limited (tagOf p) (second p)
+    Inside m r (tagOf p) (position p) × (second p ≤ m) × Limited m (tagOf p) (second p)
 
 -- nothing, or a node of the table
 abbrev pub Owable : ℕ → Owed → Type 0

@@ -4,8 +4,11 @@
 ghost use mathlib.Core.Path.{_≡_};
 ghost use mathlib.Core.List.{[], _∷_};
 ghost use Prim.Native.Nat.{_+_, _*_, _<_, _≤_};
-ghost use Rattle.rules.specs.Table.{mostNodes, mostSlots, refusedWith, refused};
+ghost use Rattle.rules.specs.Table.{mostNodes, mostSlots, FREE, refusedWith, refused};
 ghost use Rattle.rules.specs.Table.{refusalWith, refusal};
+ghost use lib.Dec.{ltb, eqb};
+ghost use mathlib.Core.Bool.{not};
+ghost use Rattle.base.specs.Choice.{every};
 ghost use Rattle.rules.specs.Facts.{manySteps};
 ghost use Rattle.rules.specs.Phases.{tagOf, position, second, hasSecond, phaseOf};
 ghost use Rattle.rules.specs.Records.{freshRecord, withPhase, withOwed, withLast};
@@ -51,14 +54,20 @@ const BLACK_TAG: u32 = 4;
 
 const APPEND_TAG: u32 = 5;
 
-pub const MOST_TAG: u32 = 5;
+const SHADE_LEFT_TAG: u32 = 6;
 
-// Where the collector is: six cases, each with its own position.
+const SHADE_RIGHT_TAG: u32 = 7;
+
+pub const MOST_TAG: u32 = 7;
+
+// Where the collector is: eight cases, each with its own position.
 pub enum Phase {
     Roots(u16),
     Scan(u16, u16),
     Left(u16),
+    ShadeLeft(u16, u16),
     Right(u16),
+    ShadeRight(u16, u16),
     Black(u16),
     Append(u16),
 }
@@ -187,7 +196,9 @@ pub fn tag(phase: Phase) -> u32
         Phase::Roots(_) => ROOTS_TAG,
         Phase::Scan(_, _) => SCAN_TAG,
         Phase::Left(_) => LEFT_TAG,
+        Phase::ShadeLeft(_, _) => SHADE_LEFT_TAG,
         Phase::Right(_) => RIGHT_TAG,
+        Phase::ShadeRight(_, _) => SHADE_RIGHT_TAG,
         Phase::Black(_) => BLACK_TAG,
         Phase::Append(_) => APPEND_TAG,
     }
@@ -201,7 +212,9 @@ pub fn position(phase: Phase) -> u16
         Phase::Roots(i) => i,
         Phase::Scan(i, _) => i,
         Phase::Left(i) => i,
+        Phase::ShadeLeft(i, _) => i,
         Phase::Right(i) => i,
+        Phase::ShadeRight(i, _) => i,
         Phase::Black(i) => i,
         Phase::Append(i) => i,
     }
@@ -215,7 +228,9 @@ pub fn second(phase: Phase) -> u16
         Phase::Roots(_) => 0,
         Phase::Scan(_, k) => k,
         Phase::Left(_) => 0,
+        Phase::ShadeLeft(_, n) => n,
         Phase::Right(_) => 0,
+        Phase::ShadeRight(_, n) => n,
         Phase::Black(_) => 0,
         Phase::Append(_) => 0,
     }
@@ -225,7 +240,10 @@ pub fn second(phase: Phase) -> u16
 pub fn has_second(tag: u32) -> bool
     ensures { λ has. ⌜ has ≡ hasSecond tag ⌝ }
 {
-    tag == SCAN_TAG
+    if tag == SCAN_TAG {
+        return true;
+    }
+    SHADE_LEFT_TAG <= tag
 }
 
 // The phase of three numbers.
@@ -247,7 +265,26 @@ pub fn phase_of(tag: u32, i: u16, k: u16) -> Phase
     if tag == BLACK_TAG {
         return Phase::Black(i);
     }
-    Phase::Append(i)
+    if tag == APPEND_TAG {
+        return Phase::Append(i);
+    }
+    if tag == SHADE_LEFT_TAG {
+        return Phase::ShadeLeft(i, k);
+    }
+    Phase::ShadeRight(i, k)
+}
+
+// Whether a node i and a number read from it are good.
+fn read_ok(m: u16, i: u16, n: u16) -> bool
+    ensures { λ ok. ⌜ ok ≡ every (ltb i m ∷ not (eqb n FREE) ∷ ltb n m ∷ []) ⌝ }
+{
+    if m <= i {
+        return false;
+    }
+    if n == 1 {
+        return false;
+    }
+    n < m
 }
 
 // An arm for each phase and not its numbers: this is done at every step.
@@ -267,7 +304,9 @@ fn phase_ok(m: u16, r: u16, p: Phase) -> bool
             k <= m
         }
         Phase::Left(i) => i < m,
+        Phase::ShadeLeft(i, n) => read_ok(m, i, n),
         Phase::Right(i) => i < m,
+        Phase::ShadeRight(i, n) => read_ok(m, i, n),
         Phase::Black(i) => i < m,
         Phase::Append(i) => i < m,
     }
@@ -322,7 +361,7 @@ pub fn bound(m: u16, r: u16) -> u32
     ensures { λ b. ⌜ b ≡ bound 2 m r ⌝ }
 {
     let n = m as u32;
-    n * n + 5 * n + r as u32 + 2
+    n * n + 7 * n + r as u32 + 2
 }
 
 // What the cycle counts, b being B.

@@ -1,4 +1,4 @@
--- A cycle that blackens b nodes takes at most b × (M + E + 1) + 2 × M + R + 2 collector steps,
+-- A cycle that blackens b nodes takes at most b × (M + 2 × E + 1) + 2 × M + R + 2 collector steps,
 -- whatever the editor does: each blackening costs a round of M looks, a step for each of the E
 -- edges and its own; the roots, a last round and the appending come to the rest.
 use Prim.Native.Nat.{ℕ, suc, _+_, _*_, _≤_}
@@ -25,7 +25,7 @@ use Rattle.runs.proofs.Cycles.{Reached, sound-reached, ToEnd, last, mor
 
 -- the most that a cycle takes which blackens b nodes
 abbrev pub tight : ℕ → ℕ → ℕ → ℕ → ℕ
-tight E m r b = b * (m + suc E) + 2 * m + r + 2
+tight E m r b = b * (m + 1 + 2 * E) + 2 * m + r + 2
 
 at-last : {E : ℕ} (c : Step) (s : State) → Sound E s → completes c s ≡ true
     → lastAppend (s .rec .m) (kind E (s .rec .phase)) ≡ true
@@ -50,7 +50,7 @@ rest-cost {E} {m} {r} (last {c = c} {s = s} e) g qm qr = go (stepped c s g)
     go (closes e₁ a k) =
         let p = rw (qm, qr) at (last-paid (at-last c s g e) (g .inv .in-phase) (g .bill)) in
         let q : s .rec .blackened ≤ s .rec .blackened + blackenings (c ∷ []) s = omega arith in
-        omega (arith, p, one-more c [] (k .kind), mul-le-mul-right (m + suc E) q)
+        omega (arith, p, one-more c [] (k .kind), mul-le-mul-right (m + suc (2 * E)) q)
     go (edits e₁ h k) = absurd (true≢false (sym e ∙ e₁))
 rest-cost {E} {m} {r} (more {c = c} {cs = cs} {s = s} e t) g qm qr = go (stepped c s g)
     (rest-cost t (sound-step c s g))

@@ -119,7 +119,7 @@ pub both-counted : (c c₁ c₂ : List ℕ) (e f a b : ℕ) → e < length c →
     → a + b ≡ differing c (shadeIn (shadeIn c e) f)
 both-counted c c₁ c₂ e f a b h k p q v w = rw (v, w, q, p) (two-shaded c e f h k)
 
--- the four steps at a gray node leave one colour fewer that stops a look, but for those that they
+-- the six steps at a gray node leave one colour fewer that stops a look, but for those that they
 -- make gray
 pub few-left : (c c₁ c₂ c₃ : List ℕ) (e f i a b : ℕ) → length c₁ ≡ length c → length c₂ ≡ length c
     → i < length c → getD c i 0 ≡ 1 → c₁ ≡ shadeIn c e
@@ -148,7 +148,7 @@ module _ (l k c : List ℕ) (x : Record) (cap : ℕ) (s : ScanAt) (p : Valid l k
       ≡ set (shadeIn (shadeIn c (getD l (s .i) 0)) (getD k (s .i) 0)) (s .i) 2
       → length c′ ≡ length c → stops c′ 0 (length c′) + 1 ≤ stops c 0 (length c) + n → n ≤ 2 → r .i
       ≡ (s .i + 1) % x .m → r .k ≡ x .m
-      → r .blackened ≡ s .blackened + 1 → r .d ≡ s .d + 4 → r .stops ≡ s .stops + n - 1
+      → r .blackened ≡ s .blackened + 1 → r .d ≡ s .d + 6 → r .stops ≡ s .stops + n - 1
       → r .grayed < x .m → r .changed ≡ s .changed + n + 1
       → n ≡ differing c (shadeIn (shadeIn c (getD l (s .i) 0)) (getD k (s .i) 0))
       → ScanLeads l k c x cap s c′ r
@@ -157,9 +157,9 @@ module _ (l k c : List ℕ) (x : Record) (cap : ℕ) (s : ScanAt) (p : Valid l k
       let g = at l k c x s (p .passes) in
       let z = b .steps in
       let y = w .room in
-      let t : r .d - s .d ≡ 4 = omega arith in
+      let t : r .d - s .d ≡ 6 = omega arith in
       let u : r .changed - s .changed ≡ n + 1 = omega arith in
-      let o : x .steps + (s .d + 4) ≡ x .steps + s .d + 4 = omega arith in
+      let o : x .steps + (s .d + 6) ≡ x .steps + s .d + 6 = omega arith in
       let v = rw (len, g .sizes .colours) at f in
       let a : Leads (state l k c (standing x s)) (r .d - s .d) (r .changed - s .changed)
       (state l k c′ (standing x r)) =

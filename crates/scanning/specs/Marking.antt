@@ -35,9 +35,9 @@ pub record ScanLeads (l k c : List ℕ) (x : Record) (cap : ℕ) (s : ScanAt) (c
         (state l k c′ (standing x r))
     pub valid : Valid l k c′ x cap r
 
--- node i is gray, and the four steps at it can be made
+-- node i is gray, and the six steps at it can be made
 pub record CanVisit (l k c : List ℕ) (x : Record) (cap : ℕ) (s : ScanAt) : Type 0 where
-  pub room : s .d + 4 ≤ cap
+  pub room : s .d + 6 ≤ cap
   pub blackened : s .blackened < x .m
   pub gray : getD c (s .i) 0 ≡ 1
   pub left : CanShade (x .m) c (getD l (s .i) 0)

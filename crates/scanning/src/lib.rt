@@ -1,4 +1,4 @@
-// Scan on plain numbers: runs of looks at once, and a gray node's four steps at once.
+// Scan on plain numbers: runs of looks at once, and a gray node's six steps at once.
 use ahead::Ahead;
 use rules::Phase;
 use rules::Record;
@@ -124,13 +124,13 @@ fn can_shade(m: u16, colour: &[u8], e: u16) -> bool
     colour[at] <= 2
 }
 
-// Whether node i is gray and its four steps can be made.
+// Whether node i is gray and its six steps can be made.
 fn can_visit(left: &[u16], right: &[u16], colour: &[u8], x: Record, cap: usize, s: ScanAt) -> bool
     requires { ⌜ Valid (now left) (now right) (now colour) x cap s ⌝ }
     requires { ⌜ Room x cap ⌝ }
     ensures { λ ok. ⌜ (ok ≡ true → CanVisit (was left) (was right) (was colour) x cap s) ⌝ }
 {
-    if cap - s.d < 4 {
+    if cap - s.d < 6 {
         return false;
     }
     if x.m as usize <= s.blackened {
@@ -208,7 +208,7 @@ fn spread(colour: &mut [u8], i: usize, e: u16, f: u16) -> Grayed
     }
 }
 
-// The four steps at a gray node.
+// The six steps at a gray node.
 fn visit(left: &[u16], right: &[u16], colour: &mut [u8], x: Record, cap: usize, s: ScanAt) -> ScanAt
     requires { ⌜ Valid (now left) (now right) (now colour) x cap s ⌝ }
     requires { ⌜ Room x cap ⌝ }
@@ -221,7 +221,7 @@ fn visit(left: &[u16], right: &[u16], colour: &mut [u8], x: Record, cap: usize, 
         i: around(i + 1, x.m as usize),
         k: x.m as usize,
         blackened: s.blackened + 1,
-        d: s.d + 4,
+        d: s.d + 6,
         stops: s.stops + grayed.more - 1,
         grayed: grayed.node,
         changed: s.changed + grayed.more + 1,

@@ -15,7 +15,7 @@ use Rattle.rules.specs.Fresh.{tabulate, nextFree, freshLeft, freshLast, freshSt
 use Rattle.rules.specs.Places.{sidesOk, turnsOk, placeCode, walkFrom, arrive}
 use Rattle.rules.specs.Editor.{sideCode, owedCode, look, depart, linkTo, link, pay, shadeOwed}
 use Rattle.rules.specs.Editor.{badFree, relink, takeNext, takeFirst, take}
-use Rattle.rules.specs.Collector.{shadeStep, afterRoots, scanStep, edgeStep, blackStep, append}
+use Rattle.rules.specs.Collector.{shadeStep, afterRoots, scanStep, readStep, blackStep, append}
 use Rattle.rules.specs.Collector.{appendWhite, appendStep, phaseStep, collect}
 use Rattle.rules.specs.Steps.{taking, linking, shading, looking, step, run}
 use Rattle.rules.specs.declared.Place.{Place}
@@ -95,7 +95,7 @@ later-lines =
     bytes "op=take slot=0 turns=- side=L" ∷
     bytes "op=link slot=0 turns=- side=L toslot=0 toturns=R" ∷
     bytes "op=shade" ∷
-    bytes "op=collect count=62" ∷
+    bytes "op=collect count=80" ∷
     bytes "op=look slot=0 turns=L" ∷
     bytes "op=take slot=0 turns=L side=R" ∷
     []
@@ -119,7 +119,7 @@ told =
 sayings : List Said
 sayings =
     Do (taking (at 0 0) 0) ∷ Do (taking (at 0 0) 1) ∷ Do (taking (at 0 0) 0) ∷ Do
-    (linking (at 0 0) 0 (at 1 1)) ∷ Do shading ∷ Collect 62 ∷ Do (looking (at 1 0)) ∷ Do
+    (linking (at 0 0) 0 (at 1 1)) ∷ Do shading ∷ Collect 80 ∷ Do (looking (at 1 0)) ∷ Do
     (taking (at 1 0) 1) ∷ []
 
 says : Says later-lines sayings
@@ -141,7 +141,7 @@ unfolding pick every first unless edgeOf withEdge cleared shadeIn badEdge oneMor
     positionOk secondOk phaseOk owedOk lastOk freeOk bound cycleOk toldOk countsOk recordOk checkOf
     tabulate nextFree freshLeft freshLast
     freshState fresh sidesOk turnsOk placeCode walkFrom arrive sideCode owedCode look depart linkTo
-    link pay shadeOwed badFree relink takeNext takeFirst take shadeStep afterRoots scanStep edgeStep
+    link pay shadeOwed badFree relink takeNext takeFirst take shadeStep afterRoots scanStep readStep
     blackStep append appendWhite appendStep phaseStep collect step run follow schedule collects
     digitOf decimal said startOf collected later firstly sayings replies
 done = refl

@@ -1,8 +1,8 @@
 """States with one value bad that the step reads, each in each way, and often more that it
 does not read, or reads later. A family, as those in states.py."""
 
-from sim import (APPEND, COLLECT, LEFT, LINK, LOOK, RIGHT, ROOTS, SCAN, SHADE, TAKE, bad_colour,
-                 make)
+from sim import (APPEND, COLLECT, LEFT, LEFT_READ, LINK, LOOK, RIGHT, RIGHT_READ, ROOTS, SCAN,
+                 SHADE, TAKE, bad_colour, make)
 
 
 def edge(rng, sim):
@@ -96,17 +96,32 @@ def of_colour(rng, sim):
     make([(edges, sim.i, edge(rng, sim)) for edges in sim.e if rng.random() < 0.2])
 
 
+def successor(rng, sim):
+    """NIL, i itself, a slot's node or any other; not FREE."""
+    node = rng.choice((0, sim.i, rng.randint(2, sim.r + 1), rng.randrange(2, sim.m)))
+    return node * (node != 1)
+
+
 def of_edges(rng, sim):
-    """Left and Right: the edge, or the colour of the node that it goes to. What is bad
-    beside it is i's colour, its other edge, or FREE's colour."""
+    """Left and Right: the edge; seldom the colour of the node that it goes to, which they
+    do not read. What is bad beside it is i's colour, its other edge, or FREE's colour."""
     sim.tag, sim.i = rng.choice((LEFT, RIGHT)), any_node(rng, sim)
     near, far = sim.e if sim.tag == LEFT else sim.e[::-1]
-    node = rng.choice((0, sim.i, rng.randint(2, sim.r + 1), rng.randrange(2, sim.m)))
-    node *= node != 1
-    make(rng.choice(([(near, sim.i, edge(rng, sim))],
-                     [(near, sim.i, node), (sim.col, node, colour(rng))])))
+    node, bad = successor(rng, sim), [(near, sim.i, edge(rng, sim))]
+    make(rng.choice((bad, bad, bad, [(near, sim.i, node), (sim.col, node, colour(rng))])))
     beside = [(sim.col, sim.i, colour(rng)), (far, sim.i, edge(rng, sim)), (sim.col, 1, 255)]
     make([change for change in beside if rng.random() < 0.2])
+
+
+def of_numbers(rng, sim):
+    """The second halves: the colour of the number read. The edge is as it was, has moved,
+    or is bad, and the colour of the node that it goes to is bad now and then."""
+    sim.tag, sim.i = rng.choice((LEFT_READ, RIGHT_READ)), any_node(rng, sim)
+    edges, now = sim.e[sim.tag == RIGHT_READ], successor(rng, sim)
+    sim.read = successor(rng, sim)
+    make([(sim.col, now, rng.choice((0, 1, 2, colour(rng)))), (sim.col, sim.read, colour(rng)),
+          (edges, sim.i, rng.choice((sim.read, now, now, edge(rng, sim))))])
+    make([(sim.col, sim.i, colour(rng))] if rng.random() < 0.2 else [])
 
 
 def of_append(rng, sim):
@@ -122,7 +137,7 @@ def of_append(rng, sim):
 
 
 def collecting(rng, sim):
-    rng.choice((of_colour, of_edges, of_edges, of_append, of_append))(rng, sim)
+    rng.choice((of_colour, of_edges, of_edges, of_numbers, of_append, of_append))(rng, sim)
     return [COLLECT] * 8
 
 
@@ -130,3 +145,19 @@ def aimed(rng, sim):
     way = rng.choice((looking, linking, linking, taking, taking, taking, shading, collecting,
                       collecting, collecting, collecting))
     return way(rng, sim)
+
+
+def stale(rng, sim):
+    """The second halves, and nothing that they read is bad. The number read is NIL, i, a slot's
+    node or any other, garbage too, of each colour; the edge is as it was, has moved, or is bad,
+    and so may be the colour of the node that it goes to."""
+    sim.tag, sim.i = rng.choice((LEFT_READ, RIGHT_READ)), any_node(rng, sim)
+    edges, now = sim.e[sim.tag == RIGHT_READ], successor(rng, sim)
+    sim.read = rng.choice((successor(rng, sim), rng.randrange(sim.r + 2, sim.m)))
+    sim.owed = rng.choice((None, None, now, sim.read))
+    edges[sim.i] = rng.choice((sim.read, now, now, 0, edge(rng, sim)))
+    sim.col[:] = rng.choices(range(3), k=sim.m)
+    make(rng.choice(([], [], [(sim.col, now, colour(rng))], [(sim.col, sim.i, colour(rng))])))
+    if sim.col[sim.read] > 2:
+        sim.col[sim.read] = rng.randrange(3)
+    return [COLLECT] * 8

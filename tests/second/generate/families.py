@@ -9,7 +9,7 @@ from malformed import (BAD_FIRST, FIRST, GOOD, LITTLE, MALFORMED, SIZES_0, SIZES
                        of_length)
 from mangled import WAYS
 from schedule import Schedule
-from sim import APPEND, SIDES
+from sim import APPEND, LEFT_READ, PHASES, RIGHT_READ, SIDES
 
 
 def of_size(rng, low, high, slots=64, budget=300000, stop=0.3):
@@ -96,7 +96,7 @@ def owed(rng, index, begin=of_size):
         s.link()
         s.repeat(1, 6, lambda: s.choose(
             7, lambda: s.cycle(rng.randint(1, 3)), 6, s.collect, 2, s.link, 2, s.take,
-            2, lambda: s.until(rng.randrange(6)), 1, s.look))
+            2, lambda: s.until(rng.choice(PHASES)), 1, s.look))
         s.maybe(0.3, s.until, APPEND, rng.randrange(s.m))
         s.repeat(1, 2, s.shade)
         s.cut()
@@ -139,7 +139,8 @@ def late(rng, index, begin=of_size):
     s.maybe(0.7, s.build_falling, s.slot(), rng.randint(1, max(1, s.m - s.r - 2)))
     s.repeat(0, s.m // 2, s.take)
     for _ in range(rng.randint(6, 25)):
-        s.choose(3, s.cycle, 2, lambda: s.cycle(2), 2, s.look, 1, lambda: s.until(rng.randrange(6)),
+        s.choose(3, s.cycle, 2, lambda: s.cycle(2), 2, s.look,
+                 1, lambda: s.until(rng.choice(PHASES)),
                  2, lambda: s.until(APPEND, rng.randrange(s.m)))
         s.maybe(0.6, s.collect, 0, 2 * s.m)
         found = s.places()
@@ -182,6 +183,33 @@ def hazard(rng, index, begin=of_size):
             s.look(place)
     s.cycle(2)
     s.repeat(1, s.m, s.take)
+    return s
+
+
+def stale(rng, index, begin=of_size):
+    """The edge that the collector has just read is moved before the number is shaded. Then
+    the cycle is ended, and all that is free is taken: a number that was lost shows."""
+    s = begin(rng, 4, rng.choice((6, 10, 20)), 3, stop=0.15)
+    s.maybe(0.3, s.build_falling, s.slot(), rng.randint(1, max(1, s.m - s.r - 2)))
+    for _ in range(rng.randint(3, 12)):
+        s.repeat(1, s.m // 2, s.take)
+        s.maybe(0.8, s.cycle, rng.randint(1, 2))
+        # Mostly a number other than NIL, at a node that has a place.
+        for _ in range(rng.randint(1, 12)):
+            s.until(rng.choice((LEFT_READ, RIGHT_READ)))
+            place = s.places().get(s.sim.i)
+            if place and s.sim.tag in (LEFT_READ, RIGHT_READ) and s.sim.read:
+                side = s.sim.tag == RIGHT_READ
+                s.choose(5, lambda: s.cut(place[0], side), 2, lambda: s.take(place[0], side),
+                         2, lambda: s.link(place[0], None, side))
+                s.maybe(0.5, s.pay)
+                break
+        s.collect(0, rng.choice((1, 2, 3)))
+        s.pay()
+        s.cycle()
+        s.maybe(0.7, s.repeat, s.m, s.m, lambda: s.take((0, ""), 0))
+        s.maybe(0.3, s.cycle)
+        s.look()
     return s
 
 
@@ -245,7 +273,7 @@ def mutated(rng, index):
 
 def exported(rng, index):
     """Steps of all kinds on a table that was loaded."""
-    family = (mixed, late, hazard, garbage, mixed, owed, refusals, garbage)[index % 8]
+    family = (mixed, late, hazard, garbage, stale, owed, refusals, garbage)[index % 8]
     return family(rng, index, loaded)
 
 
@@ -323,9 +351,9 @@ def large_export(rng, index):
 
 
 FAMILIES = [
-    bad_lines, mixed, exported, first, late, broken, owed, hazard, mangled, garbage, refusals,
-    exported, first, mixed, whole, first, late, broken, first, mutated, mangled, deep, mixed,
-    exported, bad_lines, first, any_edges, owed, garbage, broken, hazard, mixed, exported, first,
+    bad_lines, mixed, exported, first, late, broken, owed, hazard, stale, mangled, garbage,
+    refusals, exported, first, mixed, whole, first, late, broken, first, mutated, mangled, deep,
+    exported, bad_lines, first, any_edges, owed, garbage, broken, stale, mixed, exported, first,
     late, mangled, large, first, broken_twice, bad_lines, hazard, whole, first, refusals, exported,
     mixed, garbage, broken, late, first, mangled, deep, mutated, exported, hazard, first, broken,
     mixed, bad_lines, mangled, owed, first, large_export, late, first, exported, hazard, broken,

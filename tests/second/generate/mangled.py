@@ -140,5 +140,5 @@ def sprinkled(rng, first, lines):
 
 
 WAYS = [one_short, swapped, changed, one_left_out, leading_zero, renumbered, too_many, too_late,
-        cut, changed, carriage_returns, eight_digits, long, cut_bytes, bad_then_mangled, changed,
-        doubled, other_size, between, sprinkled, first_refused, changed, falling, sprinkled]
+        cut, falling, carriage_returns, eight_digits, long, cut_bytes, bad_then_mangled, changed,
+        doubled, other_size, between, sprinkled, first_refused, changed, changed, sprinkled]

@@ -63,7 +63,7 @@ class Schedule:
 
     def until(self, tag, i=None):
         """To the phase `tag` (at i, if told), by one line."""
-        limit, count = min(12 * self.m + 60, max(self.budget, 1)), 0
+        limit, count = min(15 * self.m + 60, max(self.budget, 1)), 0
         while count < limit:
             self.sim.collect()
             count += 1

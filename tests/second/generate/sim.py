@@ -1,7 +1,8 @@
 """A small simulation of sound tables, by which the generator knows which places
 exist and where the collector stands. A place is a slot and its turns."""
 
-ROOTS, SCAN, LEFT, RIGHT, BLACK, APPEND = range(6)
+# LEFT and RIGHT read an edge, the last two shade the number read.
+ROOTS, SCAN, LEFT, RIGHT, BLACK, APPEND, LEFT_READ, RIGHT_READ = PHASES = range(8)
 TAKE, LINK, SHADE, COLLECT, LOOK = range(5)
 SIDES = "LR"
 
@@ -26,7 +27,7 @@ class Sim:
         self.m, self.r = m, r
         self.e = [[0] * m, [0] * m]
         self.col = bytearray(m)
-        self.tag, self.i, self.k = ROOTS, 0, 0
+        self.tag, self.i, self.k, self.read = ROOTS, 0, 0, 0
         self.owed, self.last = None, 1
         for n in range(r + 2, m):
             self.e[0][self.last] = n
@@ -39,7 +40,7 @@ class Sim:
         self.e, self.last, self.free = [side[:] for side in edges], last, free
 
     def bound(self):
-        return self.m * self.m + 5 * self.m + self.r + 2
+        return self.m * self.m + 7 * self.m + self.r + 2
 
     def tint(self, n):
         self.col[n] = self.col[n] or 1
@@ -97,8 +98,11 @@ class Sim:
             else:
                 self.i, self.k = (i + 1) % m, self.k - 1
         elif tag == LEFT or tag == RIGHT:
-            self.tint(self.e[tag - LEFT][i])
-            self.tag += 1
+            self.read = self.e[tag - LEFT][i]
+            self.tag = LEFT_READ if tag == LEFT else RIGHT_READ
+        elif tag == LEFT_READ or tag == RIGHT_READ:
+            self.tint(self.read)
+            self.tag = RIGHT if tag == LEFT_READ else BLACK
         elif tag == BLACK:
             self.col[i] = 2
             self.black += 1

@@ -8,10 +8,10 @@ import random
 import exports
 import families
 import graphs
-from aimed import aimed
+from aimed import aimed, stale
 from schedule import Schedule
-from sim import (APPEND, BLACK, COLLECT, LEFT, LINK, LOOK, RIGHT, ROOTS, SCAN, SHADE, TAKE, Sim,
-                 bad_colour, bad_edge, make)
+from sim import (APPEND, BLACK, COLLECT, LEFT, LEFT_READ, LINK, LOOK, PHASES, RIGHT, RIGHT_READ,
+                 ROOTS, SCAN, SHADE, TAKE, Sim, bad_colour, bad_edge, make)
 
 U32 = 4294967295
 
@@ -53,11 +53,11 @@ def fit(rng, sim):
 
 def collecting(rng, sim):
     """Every phase at every position and its limits, over any good values."""
-    m, b, sim.tag = sim.m, sim.bound(), rng.randrange(6)
+    m, b, sim.tag = sim.m, sim.bound(), rng.choice(PHASES)
     top = sim.r + 1 if sim.tag == ROOTS else m - 1
     sim.i = rng.choice((0, top, rng.randint(0, top)))
     sim.k = rng.choice((1, 2, m, rng.randint(1, m)))
-    sim.e[0][sim.i], sim.e[1][sim.i] = rng.choices((0, *range(2, m)), k=2)
+    sim.e[0][sim.i], sim.e[1][sim.i], sim.read = rng.choices((0, *range(2, m)), k=3)
     sim.col[:] = rng.choices(range(3), k=m)
     sim.last = rng.choice((sim.last, 1, *range(sim.r + 2, m)))
     sim.black, sim.lastblack = rng.choice((0, m, rng.randint(0, m))), rng.randint(0, m)
@@ -73,10 +73,11 @@ def collecting_bad(rng, sim):
     v, (left, right), col, i = vars(sim), sim.e, sim.col, sim.i
     edge, colour, root = bad_edge(rng, sim.m), bad_colour(rng), rng.randrange(sim.r + 2)
     ways = [[(col, i, colour)]]
-    if sim.tag in (LEFT, RIGHT):
-        near, far = sim.e if sim.tag == LEFT else sim.e[::-1]
+    if sim.tag in (LEFT, RIGHT, LEFT_READ, RIGHT_READ):
+        near, far = sim.e if sim.tag in (LEFT, LEFT_READ) else sim.e[::-1]
         n = rng.choice([n for n in range(sim.m) if n != 1])
-        ways += [[(near, i, edge)], [(near, i, n), (col, n, colour)], [(far, i, edge)]]
+        ways += [[(near, i, edge)], [(near, i, n), (col, n, colour)], [(far, i, edge)],
+                 [(v, "read", n), (col, n, colour)]]
     if sim.tag in (BLACK, APPEND):
         ways += [[(left, i, edge), (right, i, edge), (left, sim.last, edge)]]
     if sim.tag == APPEND:
@@ -151,11 +152,30 @@ def records(rng, sim):
         ("steps", (b - 2, b - 1, b, b + 1, U32)), ("lastc", (b - 1, b, b + 1, U32))))
     step = plain(rng, sim, rng.choice((None, None, COLLECT, SHADE, 5)))
     if field in "ik":
-        sim.tag, sim.k = SCAN if field == "k" else rng.randrange(6), rng.randint(1, m)
+        sim.tag, sim.k = SCAN if field == "k" else rng.choice(PHASES), rng.randint(1, m)
     setattr(sim, field, rng.choice(values))
     if field == "last" and rng.random() < 0.7:
         fit(rng, sim)
     return step
+
+
+def reads(rng, sim):
+    """The second halves at each limit of i and of the number read, and one beyond."""
+    m, r = sim.m, sim.r
+    sim.tag = rng.choice((LEFT_READ, RIGHT_READ))
+    sim.i, sim.read = rng.choice((0, 1, r + 1, m - 1)), rng.choice((0, 2, r + 1, m - 1))
+    make([rng.choice(((vars(sim), "i", rng.choice((m - 1, m, m, m + 1, 65535))),
+                      (vars(sim), "read", rng.choice((0, 1, 1, m - 1, m, m, m + 1, 65535))),
+                      (vars(sim), "read", sim.i * (sim.i != 1))))])
+    return plain(rng, sim, rng.choice((None, None, COLLECT, COLLECT, 5)))
+
+
+def counts(rng, sim):
+    """The counts of steps near B, and near what B would be with fewer or more steps for an
+    edge."""
+    b = sim.bound() + sim.m * rng.choice((0, 0, 0, 0, 1, -1, -2))
+    make([(vars(sim), rng.choice(("steps", "lastc")), b + rng.choice((-2, -1, 0, 0, 1, 1, 2)))])
+    return plain(rng, sim, rng.choice((None, COLLECT)))
 
 
 def pairs(rng, sim):
@@ -228,8 +248,9 @@ def colouring(rng, sim):
 STATES = ((plain, 50, 3, 24), (collecting, 80, 3, 24), (collecting_bad, 60, 3, 16),
           (damaged, 120, 4, 16), (taking, 70, 7, 14), (sizes, 30, 3, 24), (records, 60, 3, 24),
           (limits, 70, 3, 12), (order, 80, 10, 14), (colouring, 60, 7, 14),
-          (pairs, 60, 3, 12), (sizes, 1, 4096, 4096), (records, 1, 4096, 4096),
-          (pairs, 1, 4096, 4096), (aimed, 240, 7, 14))
+          (pairs, 60, 3, 12), (reads, 40, 3, 16), (counts, 30, 3, 16), (stale, 60, 7, 14),
+          (aimed, 240, 7, 14))
+LARGE = (sizes, 1, 4096, 4096), (records, 1, 4096, 4096), (pairs, 1, 4096, 4096)
 
 
 def sound(rng, low, high):
@@ -237,14 +258,15 @@ def sound(rng, low, high):
     s = Schedule(rng, m, rng.randint(1, min(m - 2, rng.choice((1, 2, 3 if low > 3 else 64)))), 3000)
     s.repeat(0, 20, s.sound)
     s.maybe(0.5, s.pay)
-    s.sim.collect_many(rng.randrange(8 * m))
+    s.sim.collect_many(rng.randrange(min(8 * m, 6000)))
     return s.sim
 
 
 def numbers(sim):
     owed = (0, 0) if sim.owed is None else (1, sim.owed)
     out = [sim.m, sim.r, sim.tag, sim.i, sim.k if sim.tag == SCAN else 0, *owed, sim.last,
-           sim.steps, sim.cycles, sim.lastc, sim.black, sim.lastblack, sim.free]
+           sim.steps, sim.cycles, sim.lastc, sim.black, sim.lastblack, sim.free,
+           sim.read if sim.tag in (LEFT_READ, RIGHT_READ) else 0]
     for array in (*sim.e, sim.col):
         out += [len(array), *array]
     return out
@@ -252,20 +274,39 @@ def numbers(sim):
 
 def state_lines(seed):
     rng = random.Random(seed)
-    for family, count, low, high in STATES:
+    for family, count, low, high in STATES + LARGE:
         for _ in range(count):
             sim = sound(rng, low, high)
             step = family(rng, sim)
             yield numbers(sim) + step
 
 
+def moved(rng, sim):
+    """A run in which the edge moves between the two halves of a slot's Left or Right, or does
+    not, and the number read is shaded."""
+    side, slot, sim.owed = rng.randrange(2), rng.randrange(sim.r), None
+    sim.tag, sim.i = (LEFT, RIGHT)[side], slot + 2
+    sim.e[side][sim.i] = rng.choice((0, slot + 2, *range(2, sim.m)))
+    sim.col[:] = rng.choices((0, 0, 1, 2), k=sim.m)
+    to = rng.choice(([slot, 1, 1 - side], [rng.randrange(sim.r), 1, rng.randrange(2)],
+                     [rng.randrange(sim.r), 0, 0]))
+    link, paid = [LINK, slot, 0, 0, side, *to], [SHADE] * 8
+    one, take = [COLLECT] * 8, [TAKE, slot, 0, 0, side, 0, 0, 0]
+    return [one, *rng.choice(([link, paid], [link, one, paid], [take], [link, paid, take], [])),
+            *[one] * rng.randint(1, 6)]
+
+
 def run_lines(seed):
     rng = random.Random(seed)
+    for _ in range(30):
+        sim = sound(rng, 4, 14)
+        steps = moved(rng, sim)
+        yield numbers(sim) + [len(steps)] + [number for step in steps for number in step]
     for _ in range(180):
-        family, _, low, high = rng.choice((STATES[0], STATES[-1], rng.choice(STATES)))
+        family, _, low, high = rng.choice((STATES[0], STATES[-1], *rng.choices(STATES, k=2)))
         sim = sound(rng, low, high)
         steps = [[LOOK, rng.randrange(sim.r), 0, 0, 0, 0, 0, 0]] * rng.choice((0, 0, 1, 3))
-        steps += [family(rng, sim)] if family is aimed or rng.random() < 0.5 else []
+        steps += [family(rng, sim)] if family is not plain or rng.random() < 0.5 else []
         for _ in range(rng.choice((0, 0, 1, 2, rng.randint(3, 50)))):
             kind = rng.choice((TAKE, LINK, COLLECT, COLLECT, COLLECT, LOOK))
             steps.append([kind, 0, 0, 0, rng.randrange(2), 0, 1, rng.randrange(2)])
@@ -346,7 +387,8 @@ def asked(rng, x):
     sim = Sim(x.m, x.r)
     sim.load(x.e, x.last(), len(x.free))
     m, b = sim.m, sim.bound()
-    sim.tag, sim.i, sim.k = rng.randrange(6), rng.randrange(sim.r + 2), rng.randint(1, m)
+    sim.tag, sim.i, sim.k = rng.choice(PHASES), rng.randrange(sim.r + 2), rng.randint(1, m)
+    sim.read = rng.choice((0, rng.randrange(2, m)))
     sim.owed = rng.choice((None, 0, rng.randrange(2, m)))
     sim.black, sim.lastblack = rng.randint(0, m), rng.randint(0, m)
     sim.steps, sim.cycles, sim.lastc = rng.randrange(b), rng.randint(0, U32), rng.randint(0, b)
@@ -361,8 +403,8 @@ def inuse_lines(seed):
             sim = sound(rng, 3, 24)
         else:
             sim = asked(rng, (graphs.table if j < 160 else graphs.large)(rng, j))
-        if j % 5 == 2:
-            rng.choice((sizes, records, records, pairs))(rng, sim)
+        if j % 3 == 1:
+            rng.choice((sizes, records, records, pairs, reads, counts))(rng, sim)
         yield numbers(sim)
 
 
@@ -375,7 +417,7 @@ def free_lines(seed):
         else:
             sim = asked(rng, (graphs.table if j < 120 else graphs.large)(rng, j))
         if j % 4:
-            rng.choice((pairs, pairs, pairs, records, sizes))(rng, sim)
+            rng.choice((pairs, pairs, pairs, records, sizes, reads, counts))(rng, sim)
         yield numbers(sim)
 
 

@@ -10,8 +10,10 @@ pub fn collect(table: &mut Table, record: &mut Record) -> Reply {
     match record.phase {
         Phase::Roots(i) => roots(table, record, i),
         Phase::Scan(i, k) => scan(table, record, i, k),
-        Phase::Left(i) => shade_edge(table, record, i, LEFT),
-        Phase::Right(i) => shade_edge(table, record, i, RIGHT),
+        Phase::Left(i) => read_edge(table, record, i, LEFT),
+        Phase::LeftRead(i, node) => shade_read(table, record, i, LEFT, node),
+        Phase::Right(i) => read_edge(table, record, i, RIGHT),
+        Phase::RightRead(i, node) => shade_read(table, record, i, RIGHT, node),
         Phase::Black(i) => black(table, record, i),
         Phase::Append(i) => append(table, record, i),
     }
@@ -54,9 +56,16 @@ fn scan(table: &mut Table, record: &mut Record, i: usize, k: usize) -> Reply {
     answer(Did::Looked, i)
 }
 
-/// [Edges 1] [Edges 2] [Edges 3]
-fn shade_edge(table: &mut Table, record: &mut Record, i: usize, side: usize) -> Reply {
+/// [Edges 1] the first half of Left and of Right: the edge is read, and no colour
+fn read_edge(table: &Table, record: &mut Record, i: usize, side: usize) -> Reply {
     let node = table.edge(record, i, side)?;
+    let shading = [Phase::LeftRead(i, node), Phase::RightRead(i, node)];
+    move_on(record, shading[side]);
+    answer(Did::Looked, i)
+}
+
+/// [Edges 2] [Edges 3] the second half: the number read is shaded, and no edge is read
+fn shade_read(table: &mut Table, record: &mut Record, i: usize, side: usize, node: usize) -> Reply {
     table.colour(node)?;
     table.shade(node);
     move_on(record, [Phase::Right(i), Phase::Black(i)][side]);

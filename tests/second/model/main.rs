@@ -1,7 +1,7 @@
 //! A second program, written from the studio's document 01 alone, without a look
-//! at the first, and Load, nodes in use, colours changed, the count of free nodes and
-//! the kinds of damage from the studio's requests for them in the same way. The
-//! comments cite the rules of docs/RULES.md that it follows.
+//! at the first, and Load, nodes in use, colours changed, the count of free nodes, the
+//! kinds of damage and the smaller collector steps from the studio's requests for them
+//! in the same way. The comments cite the rules of docs/RULES.md that it follows.
 //!
 //!     rustc -O main.rs -o model
 //!
@@ -10,15 +10,16 @@
 //! `model --state` reads one state and one step per line, as decimal numbers
 //! between single blanks (shown here in pieces):
 //!
-//!     M R phase i k owing owed last steps cycles last-steps blackened blackened-last-cycle free
+//!     M R phase i k owing owed last steps cycles last-steps blackened
+//!     blackened-last-cycle free read
 //!     len left[0] .. len right[0] .. len colour[0] ..
 //!     kind slot count word side toslot tocount toword
 //!
-//! phase: 0 Roots, 1 Scan, 2 Left, 3 Right, 4 Black, 5 Append; k is read for
-//! Scan only and printed 0 elsewhere. owing: 0 nothing (owed is not read and
-//! is printed 0), 1 a node. Edges have 16 bits, colours 8, cycles 32; every
-//! other number may have 64. A line not of this form prints "bad line". The
-//! answer is one line:
+//! phase: 0 Roots, 1 Scan, 2 Left, 3 Right, 4 Black, 5 Append, 6 the second half
+//! of Left, 7 that of Right. k is taken for Scan only and printed 0 elsewhere; so is
+//! read, the number read, for 6 and 7. owing: 0 nothing (owed is not read and is
+//! printed 0), 1 a node. Edges have 16 bits, colours 8, cycles 32; every other number
+//! may have 64. A line not of this form prints "bad line". The answer is one line:
 //!
 //!     code node detail changed did, then M R .. colour.. as they are afterwards
 //!
@@ -49,7 +50,7 @@
 //!
 //! node is last where code is 0, the node refused where code is 11, 12 or 13, and 0
 //! where it is 1; detail is the side where code is 11, else 0. The record printed (M
-//! to free) is all 0 where code is not 0, and the slices are then as they were.
+//! to read) is all 0 where code is not 0, and the slices are then as they were.
 //!
 //! `model --inuse` reads a record and the three slices as `--state` does, without
 //! a step, and answers: code number detail. number is that of the nodes in use where

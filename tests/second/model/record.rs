@@ -3,13 +3,16 @@
 use crate::answer::{refuse, Refusal, DONE, RECORD, SIZE};
 use crate::table::{Table, FREE, LEFT, RIGHT, WHITE};
 
-/// [Record 2]
+/// [Record 2] Left and Right read an edge; the two cases behind them shade the number
+/// read, which they hold beside i.
 #[derive(Clone, Copy)]
 pub enum Phase {
     Roots(usize),
     Scan(usize, usize),
     Left(usize),
+    LeftRead(usize, usize),
     Right(usize),
+    RightRead(usize, usize),
     Black(usize),
     Append(usize),
 }
@@ -18,8 +21,10 @@ impl Phase {
     /// the i of the case
     pub fn position(self) -> usize {
         match self {
-            Phase::Roots(i) | Phase::Scan(i, _) | Phase::Left(i) => i,
-            Phase::Right(i) | Phase::Black(i) | Phase::Append(i) => i,
+            Phase::Roots(i) | Phase::Scan(i, _) => i,
+            Phase::Left(i) | Phase::LeftRead(i, _) => i,
+            Phase::Right(i) | Phase::RightRead(i, _) => i,
+            Phase::Black(i) | Phase::Append(i) => i,
         }
     }
 }
@@ -96,7 +101,7 @@ pub fn size_is_good(table: &Table, m: usize, r: usize) -> bool {
 impl Record {
     /// [Record 11] B
     fn bound(&self) -> usize {
-        self.m * self.m + 5 * self.m + self.r + 2
+        self.m * self.m + 7 * self.m + self.r + 2
     }
 
     /// [Record 3]
@@ -104,6 +109,9 @@ impl Record {
         match self.phase {
             Phase::Roots(i) => i <= self.r + 1,
             Phase::Scan(i, k) => i < self.m && k >= 1 && k <= self.m,
+            Phase::LeftRead(i, node) | Phase::RightRead(i, node) => {
+                i < self.m && node != FREE && node < self.m
+            }
             other => other.position() < self.m,
         }
     }
@@ -121,7 +129,7 @@ impl Record {
         if !size_is_good(table, self.m, self.r) {
             return refuse(SIZE);
         }
-        // [Codes 2] the position
+        // [Codes 2] the position, and the number read
         if !self.position_inside() {
             return refuse(RECORD);
         }

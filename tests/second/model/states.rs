@@ -11,6 +11,20 @@ use crate::record::{fresh, Phase, Record, LARGEST_CYCLES};
 use crate::step::{do_and_count, do_run, Step};
 use crate::table::Table;
 
+fn phase_of(tag: usize, i: usize, k: usize, read: usize) -> Option<Phase> {
+    match tag {
+        0 => Some(Phase::Roots(i)),
+        1 => Some(Phase::Scan(i, k)),
+        2 => Some(Phase::Left(i)),
+        3 => Some(Phase::Right(i)),
+        4 => Some(Phase::Black(i)),
+        5 => Some(Phase::Append(i)),
+        6 => Some(Phase::LeftRead(i, read)),
+        7 => Some(Phase::RightRead(i, read)),
+        _ => None,
+    }
+}
+
 /// The decimal numbers of one line, taken one after the other.
 pub struct Numbers<'a>(std::str::Split<'a, char>);
 
@@ -19,29 +33,18 @@ impl<'a> Numbers<'a> {
         self.0.next()?.parse::<usize>().ok()
     }
 
-    fn phase(&mut self) -> Option<Phase> {
-        let (tag, i, k) = (self.take()?, self.take()?, self.take()?);
-        match tag {
-            0 => Some(Phase::Roots(i)),
-            1 => Some(Phase::Scan(i, k)),
-            2 => Some(Phase::Left(i)),
-            3 => Some(Phase::Right(i)),
-            4 => Some(Phase::Black(i)),
-            5 => Some(Phase::Append(i)),
-            _ => None,
-        }
-    }
-
     fn owed(&mut self) -> Option<Option<usize>> {
         let (owing, node) = (self.take()?, self.take()?);
         [None, Some(node)].get(owing).copied()
     }
 
+    /// The number read stands last of all, far behind the rest of its phase.
     fn record(&mut self) -> Option<Record> {
+        let (m, r) = (self.take()?, self.take()?);
+        let (tag, i, k) = (self.take()?, self.take()?, self.take()?);
         Some(Record {
-            m: self.take()?,
-            r: self.take()?,
-            phase: self.phase()?,
+            m,
+            r,
             owed: self.owed()?,
             last: self.take()?,
             steps: self.take()?,
@@ -50,6 +53,7 @@ impl<'a> Numbers<'a> {
             blackened: self.take()?,
             blackened_last_cycle: self.take()?,
             free: self.take()?,
+            phase: phase_of(tag, i, k, self.take()?)?,
         })
     }
 
@@ -87,19 +91,21 @@ impl<'a> Numbers<'a> {
 }
 
 fn show(record: &Record, table: &Table) -> String {
-    let (tag, k) = match record.phase {
-        Phase::Roots(_) => (0, 0),
-        Phase::Scan(_, k) => (1, k),
-        Phase::Left(_) => (2, 0),
-        Phase::Right(_) => (3, 0),
-        Phase::Black(_) => (4, 0),
-        Phase::Append(_) => (5, 0),
+    let (tag, k, read) = match record.phase {
+        Phase::Roots(_) => (0, 0, 0),
+        Phase::Scan(_, k) => (1, k, 0),
+        Phase::Left(_) => (2, 0, 0),
+        Phase::Right(_) => (3, 0, 0),
+        Phase::Black(_) => (4, 0, 0),
+        Phase::Append(_) => (5, 0, 0),
+        Phase::LeftRead(_, read) => (6, 0, read),
+        Phase::RightRead(_, read) => (7, 0, read),
     };
     let (owing, owed) = record.owed.map_or((0, 0), |node| (1, node));
     let mut numbers = vec![record.m, record.r, tag, record.phase.position(), k];
     numbers.extend([owing, owed, record.last, record.steps, record.cycles]);
     numbers.extend([record.last_cycle_steps, record.blackened]);
-    numbers.extend([record.blackened_last_cycle, record.free]);
+    numbers.extend([record.blackened_last_cycle, record.free, read]);
     for edges in &table.edges {
         numbers.push(edges.len());
         numbers.extend(edges.iter().map(|&edge| edge as usize));

@@ -29,5 +29,15 @@ returns-6 : tie.Need-returns-6
 unfolding phaseOf
 returns-6 c = search (tests, needs) depth 12
 
+returns-7 : tie.Need-returns-7
+unfolding phaseOf
+returns-7 c = search (tests, needs) depth 12
+
+returns-8 : tie.Need-returns-8
+unfolding phaseOf
+returns-8 c = search (tests, needs) depth 12
+
 pub phase-of-spec : {M : Type 1} → statement M
-phase-of-spec = tie.close (tie.spec returns returns-2 returns-3 returns-4 returns-5 returns-6)
+phase-of-spec =
+    tie.close
+    (tie.spec returns returns-2 returns-3 returns-4 returns-5 returns-6 returns-7 returns-8)

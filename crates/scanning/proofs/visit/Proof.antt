@@ -1,4 +1,4 @@
--- `visit` meets its contract: `spread` leaves the colours that the four steps at a gray node leave,
+-- `visit` meets its contract: `spread` leaves the colours that the six steps at a gray node leave,
 -- and the position is moved as they move the record. The node itself is one of the stops counted,
 -- so the count less one stays high enough.
 use mathlib.Core.Path.{refl}
