@@ -1,9 +1,16 @@
 /* Jenturik: an on-the-fly garbage collector for graphs of nodes with two edges each.
  *
- * `rt staticlib jenturik_c` makes target/staticlib/libjenturik_c.a, for x86-64 Linux. It needs no
- * other library:
+ * `./library` makes target/library/TARGET/libjenturik.a, for Linux on x86-64 and on 64-bit Arm and
+ * for Android on 64-bit Arm, with this header beside it. It needs no other library, not even libc:
  *
- *     cc -Iinclude program.c target/staticlib/libjenturik_c.a
+ *     cc -Itarget/library/x86-64-linux program.c target/library/x86-64-linux/libjenturik.a
+ *
+ * What each call does is proved, for all arguments, of the library's LLVM module, which is one and
+ * the same for all machines. What is below that is trusted, not proved: LLVM's back end for the
+ * machine, two loops in C that fill and copy bytes, the linker and the processor.
+ *
+ * jenturik_table.h has the same calls over a struct, with one pointer to hand over. With
+ * jenturik_record.h the calls of a program become a file that the program ./jenturik replays.
  *
  * How it is used
  *
@@ -71,7 +78,7 @@
  * Let B = M * M + 7 * M + R + 2. A cycle takes at most B collector steps. A node that no slot leads
  * to is free again after at most 3 * B, however busy the program is; usually much sooner. After
  * code 9 make collector steps and try again. If 3 * B of them do not help, nothing was garbage, and
- * the table is full.
+ * the table is full. jenturik_bound(M, R) is B.
  *
  * Threads
  *
@@ -82,6 +89,30 @@
 
 #include <stddef.h>
 #include <stdint.h>
+
+#if SIZE_MAX != UINT64_MAX
+#error "jenturik.h is for 64-bit machines; for WebAssembly there is jenturik.mjs"
+#endif
+
+/* The version of this header. jenturik_version() answers that of the library. */
+#define JENTURIK_VERSION "4.7"
+#define JENTURIK_VERSION_MAJOR 4
+#define JENTURIK_VERSION_MINOR 7
+#define JENTURIK_VERSION_NUMBER (1000 * JENTURIK_VERSION_MAJOR + JENTURIK_VERSION_MINOR)
+
+/* The compiler warns where an answer is forgotten that should not be. Define this as nothing before
+ * the header to be spared. */
+#ifndef JENTURIK_NODISCARD
+#if defined(__cplusplus) && __cplusplus >= 201703L
+#define JENTURIK_NODISCARD [[nodiscard]]
+#elif defined(__STDC_VERSION__) && __STDC_VERSION__ >= 202311L
+#define JENTURIK_NODISCARD [[nodiscard]]
+#elif defined(__GNUC__)
+#define JENTURIK_NODISCARD __attribute__((warn_unused_result))
+#else
+#define JENTURIK_NODISCARD
+#endif
+#endif
 
 #ifdef __cplusplus
 extern "C" {
@@ -209,11 +240,23 @@ typedef struct {
 /* How many words a step has. */
 enum { JENTURIK_STEP_WORDS = 12 };
 
+/* Answers the library's version, as JENTURIK_VERSION_NUMBER has it. If it is another one than the
+ * header's, compile the program anew with the header that the library came with. */
+JENTURIK_NODISCARD
+uint32_t jenturik_version(void);
+
+/* B, the most collector steps that a cycle takes. */
+static inline size_t jenturik_bound(uint32_t nodes, uint32_t slots) {
+    size_t m = nodes, r = slots;
+    return m * m + 7 * m + r + 2;
+}
+
 /* Makes a fresh table of `nodes` nodes and `slots` slots in arrays of `nodes` entries, and its
  * record: no edges, every node white, the nodes from R + 2 on free, in rising order. Answers the
  * last free node. Writes all three arrays and the words.
  * If it is refused (1), the arrays stay as they are and the words become all 0: the record of a
  * table of no nodes, which every other call refuses with 1. */
+JENTURIK_NODISCARD
 jenturik_told jenturik_fresh(uint16_t *left, size_t lefts, uint16_t *right, size_t rights,
                              uint8_t *colour, size_t colours, uint32_t words[JENTURIK_WORDS],
                              uint32_t nodes, uint32_t slots);
@@ -226,6 +269,7 @@ jenturik_told jenturik_fresh(uint16_t *left, size_t lefts, uint16_t *right, size
  * these. On the stack it keeps arrays of 44 KiB.
  * If it is refused (1, 11, 12, 13), the arrays stay as they are and the words become all 0, as with
  * jenturik_fresh. */
+JENTURIK_NODISCARD
 jenturik_told jenturik_load(uint16_t *left, size_t lefts, uint16_t *right, size_t rights,
                             uint8_t *colour, size_t colours, uint32_t words[JENTURIK_WORDS],
                             const uint32_t *given_left, size_t given_lefts,
@@ -233,6 +277,7 @@ jenturik_told jenturik_load(uint16_t *left, size_t lefts, uint16_t *right, size_
                             uint32_t slots);
 
 /* Names the node at a place, 0 for NIL. Writes nothing. */
+JENTURIK_NODISCARD
 jenturik_told jenturik_look(const uint16_t *left, size_t lefts, const uint16_t *right,
                             size_t rights, const uint8_t *colour, size_t colours,
                             const uint32_t words[JENTURIK_WORDS], uint32_t slot, uint32_t count,
@@ -245,6 +290,7 @@ jenturik_told jenturik_look(const uint16_t *left, size_t lefts, const uint16_t *
  * Refused with 1, 2, and with 7 if a slot, or a node that some slot leads to, has a bad edge, which
  * leads nowhere: the answer has the lowest such node, and in the detail the side; left, if both are
  * bad. Bad edges of other nodes, NIL's among them, do not matter. */
+JENTURIK_NODISCARD
 jenturik_told jenturik_in_use(const uint16_t *left, size_t lefts, const uint16_t *right,
                               size_t rights, const uint8_t *colour, size_t colours,
                               const uint32_t words[JENTURIK_WORDS]);
@@ -264,6 +310,7 @@ jenturik_told jenturik_free_count(const uint16_t *left, size_t lefts, const uint
  * the target place (toslot, tocount, toword). Answers the target, whose shade is then owed: call
  * jenturik_shade before the next link or take. Looks and collector steps may come between. Writes
  * one edge and the words. */
+JENTURIK_NODISCARD
 jenturik_told jenturik_link(uint16_t *left, size_t lefts, uint16_t *right, size_t rights,
                             const uint8_t *colour, size_t colours, uint32_t words[JENTURIK_WORDS],
                             uint32_t slot, uint32_t count, uint32_t word, uint32_t side,
@@ -278,6 +325,7 @@ jenturik_told jenturik_shade(const uint16_t *left, size_t lefts, const uint16_t 
  * this side, to it. The left edge of the node taken becomes NIL; its right edge is NIL in every run
  * from a fresh or loaded table. Answers the node taken. Writes three edges, at most two colours and
  * the words. */
+JENTURIK_NODISCARD
 jenturik_told jenturik_take(uint16_t *left, size_t lefts, uint16_t *right, size_t rights,
                             uint8_t *colour, size_t colours, uint32_t words[JENTURIK_WORDS],
                             uint32_t slot, uint32_t count, uint32_t word, uint32_t side);
@@ -298,11 +346,13 @@ jenturik_last jenturik_collect_many(uint16_t *left, size_t lefts, uint16_t *righ
  * the steps before it stay done. The steps are `numbers` words, JENTURIK_STEP_WORDS to a step in
  * the order of jenturik_step. If `numbers` is no multiple of that, nothing is done and the code
  * is 10. Codes 1 and 2 are judged first, for an empty schedule too. The steps are not written. */
+JENTURIK_NODISCARD
 jenturik_done jenturik_schedule(uint16_t *left, size_t lefts, uint16_t *right, size_t rights,
                                 uint8_t *colour, size_t colours, uint32_t words[JENTURIK_WORDS],
                                 const uint32_t *steps, size_t numbers);
 
 /* The same over an array of `count` steps. */
+JENTURIK_NODISCARD
 static inline jenturik_done jenturik_schedule_steps(uint16_t *left, size_t lefts, uint16_t *right,
                                                     size_t rights, uint8_t *colour, size_t colours,
                                                     uint32_t words[JENTURIK_WORDS],

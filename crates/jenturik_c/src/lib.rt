@@ -26,8 +26,12 @@ ghost use Rattle.jenturik_c.specs.Flat.{scheduleOf, changesOf};
 ghost use Rattle.jenturik_c.specs.Many.{codeIn, detailIn, lastOf};
 ghost use Rattle.jenturik_c.specs.Lent.{kept, tells, facing, runs, facingRun};
 ghost use Rattle.jenturik_c.specs.Lent.{facingLast, facingCount, Stays};
+ghost use Rattle.jenturik_c.specs.Version.{VERSION};
 ghost use Rattle.base.specs.Lent.{was, is};
 ghost use Rattle.rules.specs.Lent.{given};
+
+// The library's version, as JENTURIK_VERSION_NUMBER of include/jenturik.h has it.
+const VERSION: u32 = 4007;
 
 // How many words a step of a schedule has, and the number of each, by the names of
 // include/jenturik.h. From UNUSED on they have no use.
@@ -140,6 +144,14 @@ fn no_record() -> Told
         node: 0,
         changed: 0,
     }
+}
+
+// The library's version.
+#[no_mangle]
+pub extern "C" fn jenturik_version() -> u32
+    ensures { λ n. ⌜ n ≡ VERSION ⌝ }
+{
+    VERSION
 }
 
 // A fresh table; the words are written whatever they were.

@@ -6,6 +6,7 @@ use Prim.Native.Nat.{ℕ}
 use denote.Ref.{now}
 use Rattle.jenturik_c.specs.Face.{answeredOf, Faced, faced, placeOf}
 use Rattle.jenturik_c.specs.Many.{facedRun, codeIn, detailIn, lastOf}
+use Rattle.jenturik_c.proofs.jenturik_version.Reads as c-version
 use Rattle.jenturik_c.proofs.jenturik_fresh.Reads as c-fresh
 use Rattle.jenturik_c.proofs.jenturik_load.Reads as c-load
 use Rattle.jenturik_c.proofs.jenturik_look.Reads as c-look
@@ -24,6 +25,11 @@ use Rattle.promises.specs.Words.{Fresh, Load, Look, InUse, FreeCount, Li
 use Rattle.promises.specs.Words.{Collect, CollectMany, Schedule, left-in, left-in-run}
 use Rattle.promises.specs.Words.{left-by, words}
 use Rattle.promises.proofs.Determined.{determined}
+
+-- the version is lent nothing
+pub c-version-determined : (κs : _) (a : _) (r r′ : _) (s s′ : _)
+    → c-version.Learnt κs a r s → c-version.Learnt κs a r′ s′ → r ≡ r′
+c-version-determined κs a r r′ s s′ = determined
 
 pub c-fresh-determined : (κs : _) (a : _) (r r′ : _) (s s′ : _)
     → c-fresh.Learnt κs a r s → c-fresh.Learnt κs a r′ s′
