@@ -3,7 +3,7 @@
 // is only what the system does. A call that is interrupted is made again, and a write that took a
 // part goes on behind it. A program has no exit status: one line on standard error says how the run
 // ended, unless all was answered.
-use transcript::Session;
+use session::Session;
 ghost use Prim.Native.Nat.{_≤_};
 ghost use lib.ListN.{length};
 ghost use Rattle.base.specs.Lent.{was, is};

@@ -1,113 +1,48 @@
--- Where a session stands, stage by stage: what the code leaves is what the bytes make of it.
-use Prim.Native.Nat.{ℕ, suc, _+_, _-_, _<_, _≤_, min}
-use mathlib.Core.Bool.{Bool, true, false}
+-- Where a session stands, line by line: what the code leaves is what the bytes make of it.
+use Prim.Native.Nat.{ℕ, suc, _+_, _-_, _<_, _≤_}
+use mathlib.Core.Bool.{Bool, true, false, true≢false}
 use mathlib.Core.Path.{_≡_, refl, sym, ap, _∙_}
-use mathlib.Core.List.{List, [], _∷_, _++_}
+use mathlib.Core.List.{List, [], _∷_}
 use native.Mathlib.Omega.{arith}
-use native.Mathlib.Nat.{sub-zero}
 use native.Mathlib.Numerals.{add-one}
-use lib.ListN.{length, getD, set, take, drop, drop-of-length-le}
+use lib.ListN.{length, getD, take, drop, drop-of-length-le}
 use lib.Seq.{drop-cons}
-use lib.Dec.{eqb, ltb}
+use lib.Dec.{eqb}
 use Rattle.base.specs.Choice.{pick}
-use Rattle.base.proofs.Tests.{pick-yes, pick-no, eq-yes, eq-no}
-use Rattle.rules.specs.Table.{state}
-use Rattle.rules.specs.declared.Record.{Record}
-use Rattle.text.specs.Grammar.{read, isExport, entry}
-use Rattle.text.specs.Answers.{Written, written, contents, putAll, said}
+use Rattle.base.proofs.Tests.{pick-yes, pick-no, eq-yes}
+use Rattle.text.specs.Grammar.{isExport, entry}
+use Rattle.text.specs.Answers.{Written, written, contents, putAll}
 use Rattle.text.specs.declared.Listed.{Listed}
 use Rattle.text.specs.declared.Listed.the-variants.{Edges, Stray}
-use Rattle.lines.specs.Lines.{prints, opened, loaded}
-use Rattle.transcript.specs.Transcript.{newline}
-use Rattle.transcript.specs.Feeding.{fold, Going, going, gathered, nextByte, newlineFrom}
-use Rattle.transcript.specs.Feeding.{Stand, placed, stand, begun, filled, noting, lineEnded}
-use Rattle.transcript.specs.Feeding.{moved, turned, isOver, eaten, eats, emptied}
-use Rattle.transcript.specs.Feeding.{block, bare, closed, finish}
-use Rattle.transcript.specs.Leads.{Leads, Replaces}
-use Rattle.transcript.specs.declared.Run.{Run}
-use Rattle.transcript.specs.declared.Session.{Session}
-use Rattle.transcript.specs.declared.Stage.{Stage}
-use Rattle.transcript.specs.declared.Stage.the-variants.{Opening, Second, Loading, Serving}
-use Rattle.transcript.specs.declared.Stage.the-variants.{Over, Stopped}
-use Rattle.transcript.proofs.Feeds.{to-end, found}
-use Rattle.transcript.proofs.Parts.{Lent, front}
-
-abbrev pub stands : Stage → List ℕ → List ℕ → List ℕ → List ℕ → List ℕ → Going → Stand
-stands stage l k c ls rs g = record {
-  stage =
-      stage;
-  going = g;
-  left = l;
-  right = k;
-  colour = c;
-  lefts = ls;
-  rights = rs;
-}
-
--- while a table is served its lines go on, and nothing else changes
-module _ (m : ℕ) (l k c ls rs : List ℕ) where
-  serves-byte : (g : Going) (b : ℕ) → eats (stands (Serving m) l k c ls rs g) b
-      ≡ stands (Serving m) l k c ls rs (nextByte g b)
-  unfolding eaten lineEnded nextByte pick
-  serves-byte g b = go (eqb b newline) refl
-    where
-      go : (t : Bool) → eqb b newline ≡ t → eats (stands (Serving m) l k c ls rs g) b
-          ≡ stands (Serving m) l k c ls rs (nextByte g b)
-      go true e = rw e
-      go false e = rw e
-
-  serves : (input : List ℕ) (g : Going) → fold eats input (stands (Serving m) l k c ls rs g)
-      ≡ stands (Serving m) l k c ls rs (fold nextByte input g)
-  unfolding fold
-  serves [] g = refl
-  serves (b ∷ input) g = ap (fold eats input) (serves-byte g b) ∙ serves input (nextByte g b)
-
--- l′, k′ and c′ are the parts as they came back, x and y what is kept beside them
-pub served : (m : ℕ) (l k c input l′ k′ c′ line out line′ out′ : List ℕ) (a b d : ℕ) (x y : Run)
-    → Lent m a l l′ → Lent m b k k′ → Lent m d c c′
-    → going y l′ k′ c′ line′ out′ ≡ fold nextByte input
-    (going x (take (a - 0) l) (take (b - 0) k) (take (d - 0) c) line out)
-    → (ls rs : List ℕ)
-    → placed (Serving m) (state (l′ ++ drop (a - 0) l) (k′ ++ drop (b - 0) k) (c′ ++ drop (d - 0) c)
-    (y .rec)) ls rs (written line′ (y .at)) (written out′ (y .used))
-    ≡ fold eats input (placed (Serving m) (state l k c (x .rec)) ls rs (written line (x .at))
-    (written out (x .used)))
-served m l k c input l′ k′ c′ line out line′ out′ a b d x y p q s e ls rs =
-    rw (p .first, q .first, s .first, p .rest, q .rest, s .rest)
-    (ap (stands (Serving m) (drop m l) (drop m k) (drop m c) ls rs)
-    (rw (p .given, q .given, s .given) at e)
-    ∙ sym (serves m (drop m l) (drop m k) (drop m c) ls rs input
-    (going x (take m l) (take m k) (take m c) line out)))
-
--- a run that is over stays so
-stays : (s : Stand) (b : ℕ) → isOver (s .stage) ≡ true → s ≡ eats s b
-unfolding eaten
-stays s b q = pick-yes _ _ _ _ (sym q) refl
-
-pub over : (input : List ℕ) (s : Stand) → isOver (s .stage) ≡ true → s ≡ fold eats input s
-unfolding fold
-over [] s q = refl
-over (b ∷ input) s q = over input s q ∙ ap (fold eats input) (stays s b q)
+use Rattle.session.specs.Feeding.{newline, fold, Going, gathered, ended, newlineFrom, Stand}
+use Rattle.session.specs.Feeding.{standing, moved, turned, begun, stopped, filled, noting}
+use Rattle.session.specs.Feeding.{lineEnded, isOver, eaten, eats, emptied, block, bare, closed}
+use Rattle.session.specs.Feeding.{finish}
+use Rattle.session.specs.declared.Run.{Run}
+use Rattle.session.specs.declared.Stage.{Stage}
+use Rattle.session.specs.declared.Stage.the-variants.{Opening, Second, Loading, Serving}
+use Rattle.session.specs.declared.Stage.the-variants.{Over, Stopped}
+use Rattle.session.proofs.Feeds.{to-end, found}
+use Rattle.session.proofs.Stands.{over}
+use Rattle.transcript.specs.Leads.{Leads, formOf}
+use Rattle.transcript.specs.declared.Form.{Form}
+use Rattle.transcript.specs.declared.Form.the-variants.{First, Entry, Step, Unread}
 
 -- nothing is left of the input
 none-left : (input : List ℕ) (s : Stand) → s ≡ fold eats (drop (length input) input) s
 unfolding fold
 none-left input s = rw (drop-of-length-le input {i = length input} (omega arith))
 
-module _ (i : ℕ) (input : List ℕ) (s t : Stand) where
-  -- all that is left was eaten
-  pub leads-all : i < length input → t ≡ fold eats (drop i input) s
-      → Leads i (length input) input s t
-  leads-all h e = record { gains = h; same = sym e ∙ none-left input t }
-
-pub leads-over : (i : ℕ) (input : List ℕ) (s : Stand) → i < length input → true ≡ isOver (s .stage)
-    → Leads i (length input) input s s
-leads-over i input s h q = leads-all i input s s h (over (drop i input) s (sym q))
+-- all that is left was eaten
+leads-all : (i : ℕ) (input : List ℕ) (s t : Stand) → i < length input
+    → t ≡ fold eats (drop i input) s
+    → Leads i (length input) input s t
+leads-all i input s t h e = record { gains = h; same = sym e ∙ none-left input t }
 
 -- what an export's line does is the same in each stage
 same-noting : (m n : ℕ) (x : Listed) (st st′ : Stage) (s : Stand)
     → noting m n x (moved st (s .going) s) ≡ noting m n x (moved st′ (s .going) s)
-unfolding noting filled
+unfolding noting filled stopped
 same-noting m n (Edges a b) st st′ s = refl
 same-noting m n Stray st st′ s = refl
 
@@ -116,6 +51,73 @@ newline-eaten : (s : Stand) (b : ℕ) → b ≡ newline → isOver (s .stage) �
 unfolding eaten
 newline-eaten s b z q =
     pick-no _ _ _ _ (sym q) (pick-yes _ _ _ _ (eq-yes b newline z) refl)
+
+-- what a line of each form does
+unfoldable does : Form → Stand → Stand
+does First s = begun s
+does (Entry m n) s = noting m n (entry (contents (s .going .line)) n) s
+does (Step m) s = moved (Serving m) (ended (s .going)) s
+does Unread s = s
+
+-- where the lines stand before one of this form
+unfoldable before : Form → Stage
+before First = Opening
+before (Entry m n) = Serving m
+before (Step m) = Serving m
+before Unread = Over
+
+-- the line at hand does what its form says, and a run that is over reads none
+module _ (g : Run) (l k c ls rs line out : List ℕ) where
+  abbrev at : Stage → Stand
+  at st = standing st g l k c ls rs line out
+
+  abbrev form : Stage → Form
+  form st = formOf st (take (g .at) line)
+
+  form-does : (st : Stage) → isOver st ≡ false
+      → lineEnded st (at st) ≡ does (form st) (at (before (form st)))
+  unfolding lineEnded standing formOf does before pick
+  form-does Opening q = refl
+  form-does (Second m) q = go (isExport (take (g .at) line)) refl
+    where
+      go : (z : Bool) → isExport (take (g .at) line) ≡ z
+          → lineEnded (Second m) (at (Second m))
+          ≡ does (pick z (Entry m 0) (Step m)) (at (before (pick z (Entry m 0) (Step m))))
+      go true e = rw e (same-noting m 0 _ (Second m) (Serving m) (at (Second m)))
+      go false e = rw e
+  form-does (Loading m n) q = same-noting m n _ (Loading m n) (Serving m) (at (Loading m n))
+  form-does (Serving m) q = refl
+  form-does Over q = absurd (true≢false q)
+  form-does (Stopped m) q = absurd (true≢false q)
+
+-- whether a line of this form is read
+unfoldable isRead : Form → Bool
+isRead First = true
+isRead (Entry m n) = true
+isRead (Step m) = true
+isRead Unread = false
+
+form-live : (st : Stage) (w : List ℕ) → isRead (formOf st w) ≡ true → isOver st ≡ false
+unfolding formOf isRead
+form-live Opening w q = refl
+form-live (Second m) w q = refl
+form-live (Loading m n) w q = refl
+form-live (Serving m) w q = refl
+form-live Over w q = sym q
+form-live (Stopped m) w q = sym q
+
+form-over : (st : Stage) (w : List ℕ) → isRead (formOf st w) ≡ false → isOver st ≡ true
+unfolding formOf isRead pick
+form-over Opening w q = sym q
+form-over (Second m) w q = go (isExport w) q
+  where
+    go : (z : Bool) → isRead (pick z (Entry m 0) (Step m)) ≡ false → false ≡ true
+    go true q = sym q
+    go false q = sym q
+form-over (Loading m n) w q = sym q
+form-over (Serving m) w q = sym q
+form-over Over w q = refl
+form-over (Stopped m) w q = refl
 
 -- a newline stands at position i
 module _ (i : ℕ) (input : List ℕ) (h : i < length input) (z : getD input i 0 ≡ 10) where
@@ -127,53 +129,72 @@ module _ (i : ℕ) (input : List ℕ) (h : i < length input) (z : getD input i 0
       ∙ ap (fold eats (drop (suc i) input)) (sym (newline-eaten s (getD input i 0) z q))
       ∙ ap (λ (j : ℕ). fold eats (drop j input) (lineEnded (s .stage) s)) (sym (add-one i))
 
-  pub leads-ended : (s t : Stand) → isOver (s .stage) ≡ false → t ≡ lineEnded (s .stage) s
-      → Leads i (i + 1) input s t
-  leads-ended s t q e = record {
-    gains = omega arith;
-    same = at-newline s q ∙ ap (fold eats (drop (i + 1) input)) (sym e);
-  }
+  module _ (st : Stage) (g : Run) (l k c ls rs line out : List ℕ) (t : Stand) where
+    live-newline : isOver st ≡ false
+        → fold eats (drop i input) (standing st g l k c ls rs line out)
+        ≡ fold eats (drop (i + 1) input) (lineEnded st (standing st g l k c ls rs line out))
+    unfolding standing
+    live-newline live = at-newline (standing st g l k c ls rs line out) live
 
-  -- the line after the first is a step
-  pub leads-step : (m : ℕ) (l k c : List ℕ) (x : Record) (ls rs : List ℕ) (line out : Written)
-      (t : Stand)
-      → false ≡ isExport (contents line)
-      → t ≡ fold eats (drop i input) (placed (Serving m) (state l k c x) ls rs line out)
-      → Leads i (length input) input (placed (Second m) (state l k c x) ls rs line out) t
-  unfolding lineEnded
-  leads-step m l k c x ls rs line out t q e =
-      leads-all i input _ t h
-      (e ∙ at-newline (placed (Serving m) (state l k c x) ls rs line out) refl
-      ∙ ap (fold eats (drop (i + 1) input)) (pick-no _ _ _ _ q refl)
-      ∙ sym (at-newline (placed (Second m) (state l k c x) ls rs line out) refl))
+    -- a line of the form f is at its end
+    ended-by : (f : Form) → f ≡ formOf st (take (g .at) line) → isRead f ≡ true
+        → fold eats (drop i input) (standing st g l k c ls rs line out)
+        ≡ fold eats (drop (i + 1) input) (does f (standing (before f) g l k c ls rs line out))
+    ended-by f p q =
+        let live = form-live st (take (g .at) line) (ap isRead (sym p) ∙ q) in
+        rw p (live-newline live
+        ∙ ap (fold eats (drop (i + 1) input)) (form-does g l k c ls rs line out st live))
 
-  -- line 0 of an export, and another
-  pub leads-export : (m : ℕ) (l k c : List ℕ) (x : Record) (ls rs : List ℕ) (line out : Written)
-      (t : Stand)
-      → true ≡ isExport (contents line)
-      → t ≡ noting m 0 (entry (contents line) 0) (placed (Serving m) (state l k c x) ls rs line out)
-      → Leads i (i + 1) input (placed (Second m) (state l k c x) ls rs line out) t
-  unfolding lineEnded
-  leads-export m l k c x ls rs line out t q e =
-      leads-ended _ t refl
-      (pick-yes _ _ _ _ q (e ∙ same-noting m 0 (entry (contents line) 0) (Serving m) (Second m)
-      (placed (Serving m) (state l k c x) ls rs line out)))
+    -- the first line
+    pub leads-first : First ≡ formOf st (take (g .at) line)
+        → t ≡ begun (standing Opening g l k c ls rs line out)
+        → Leads i (i + 1) input (standing st g l k c ls rs line out) t
+    unfolding does before isRead
+    leads-first p e = record {
+      gains = omega arith;
+      same = ended-by First p refl ∙ ap (fold eats (drop (i + 1) input)) (sym e);
+    }
 
-  pub leads-loading : (m n : ℕ) (l k c : List ℕ) (x : Record) (ls rs : List ℕ) (line out : Written)
-      (t : Stand)
-      → t ≡ noting m n (entry (contents line) n) (placed (Serving m) (state l k c x) ls rs line out)
-      → Leads i (i + 1) input (placed (Loading m n) (state l k c x) ls rs line out) t
-  unfolding lineEnded
-  leads-loading m n l k c x ls rs line out t e =
-      leads-ended _ t refl (e ∙ same-noting m n (entry (contents line) n) (Serving m) (Loading m n)
-      (placed (Serving m) (state l k c x) ls rs line out))
+    -- line n of an export
+    pub leads-entry : (m n : ℕ) → Entry m n ≡ formOf st (take (g .at) line)
+        → t ≡ noting m n (entry (take (g .at) line) n)
+        (standing (Serving m) g l k c ls rs line out)
+        → Leads i (i + 1) input (standing st g l k c ls rs line out) t
+    unfolding does before isRead standing
+    leads-entry m n p e = record {
+      gains = omega arith;
+      same = ended-by (Entry m n) p refl ∙ ap (fold eats (drop (i + 1) input)) (sym e);
+    }
 
-  pub leads-opening : (l k c : List ℕ) (x : Record) (ls rs : List ℕ) (line out : Written)
-      (t : Stand)
-      → t ≡ begun (placed Opening (state l k c x) ls rs line out)
-      → Leads i (i + 1) input (placed Opening (state l k c x) ls rs line out) t
-  unfolding lineEnded
-  leads-opening l k c x ls rs line out t e = leads-ended _ t refl e
+    -- a step: the table is served from here on
+    pub leads-step : (m : ℕ) → Step m ≡ formOf st (take (g .at) line)
+        → t ≡ fold eats (drop i input) (standing (Serving m) g l k c ls rs line out)
+        → Leads i (length input) input (standing st g l k c ls rs line out) t
+    unfolding does before isRead standing lineEnded
+    leads-step m p e =
+        leads-all i input _ t h
+        (e ∙ at-newline (standing (Serving m) g l k c ls rs line out) refl
+        ∙ sym (ended-by (Step m) p refl))
+
+-- the run is over
+pub leads-over : (i : ℕ) (input : List ℕ) (st : Stage) (g : Run) (l k c ls rs line out : List ℕ)
+    → i < length input → true ≡ isOver st
+    → Leads i (length input) input (standing st g l k c ls rs line out)
+    (standing st g l k c ls rs line out)
+unfolding standing
+leads-over i input st g l k c ls rs line out h q =
+    let s = standing st g l k c ls rs line out in
+    leads-all i input s s h (over (drop i input) s (sym q))
+
+pub leads-unread : (i : ℕ) (input : List ℕ) (st : Stage) (g : Run)
+    (l k c ls rs line out : List ℕ)
+    → i < length input → Unread ≡ formOf st (take (g .at) line)
+    → Leads i (length input) input (standing st g l k c ls rs line out)
+    (standing st g l k c ls rs line out)
+unfolding isRead
+leads-unread i input st g l k c ls rs line out h q =
+    leads-over i input st g l k c ls rs line out h
+    (sym (form-over st (take (g .at) line) (ap isRead (sym q))))
 
 gathers : (s : Stand) → isOver (s .stage) ≡ false → (g : Going) (b : ℕ) → eqb b newline ≡ false
     → eats (turned s g) b ≡ turned s (gathered g (b ∷ []))
@@ -181,95 +202,42 @@ unfolding eaten pick
 gathers s z g b e = rw (z, e)
 
 -- the line up to e, where its newline stands or the input ends
-pub leads-line : (i e : ℕ) (input : List ℕ) (s : Stand) (line : Written)
+line-eaten : (i e : ℕ) (input : List ℕ) (s : Stand) (line : Written)
     → e ≡ newlineFrom (drop i input) i → isOver (s .stage) ≡ false
     → line ≡ putAll (s .going .line) (take (e - i) (drop i input))
     → fold eats (drop i input) s ≡ fold eats (drop e input)
     (turned s (record { state = s .going .state; line = line; out = s .going .out }))
-leads-line i e input s line q z d =
+line-eaten i e input s line q z d =
     rw (d, q) (to-end eats (turned s) (gathers s z) input i (s .going))
 
-module _ (i e : ℕ) (input : List ℕ) (s : Stand) (line : Written)
-    (q : e ≡ newlineFrom (drop i input) i) (h : i < length input) (z : false ≡ isOver (s .stage))
-    (d : line ≡ putAll (s .going .line) (take (e - i) (drop i input))) where
-  -- the line as it is then
-  abbrev pub lined : Stand
-  lined = turned s (record { state = s .going .state; line = line; out = s .going .out })
+-- line′ is the line then, with so many bytes used
+module _ (i e : ℕ) (input : List ℕ) (st : Stage) (g : Run) (used : ℕ)
+    (l k c ls rs line line′ out : List ℕ) (q : e ≡ newlineFrom (drop i input) i)
+    (h : i < length input) (z : false ≡ isOver st)
+    (d : written line′ used ≡ putAll (written line (g .at)) (take (e - i) (drop i input))) where
+  lined : Stand
+  lined = standing st (record { rec = g .rec; at = used; used = g .used }) l k c ls rs line′ out
 
-  pub leads-on : (j : ℕ) (t : Stand) → Leads e j input lined t → Leads i j input s t
+  goes : fold eats (drop i input) (standing st g l k c ls rs line out)
+      ≡ fold eats (drop e input) lined
+  unfolding standing lined
+  goes =
+      line-eaten i e input (standing st g l k c ls rs line out) (written line′ used) q (sym z) d
+
+  pub leads-on : (j : ℕ) (t : Stand)
+      → Leads e j input (standing st (record { rec = g .rec; at = used; used = g .used }) l k c ls
+      rs line′ out) t
+      → Leads i j input (standing st g l k c ls rs line out) t
+  unfolding lined
   leads-on j t r =
       let b = found input i e q h in
-      record {
-        gains = omega (arith, r .gains);
-        same = leads-line i e input s line q (sym z) d ∙ r
-            .same;
-      }
+      record { gains = omega (arith, r .gains); same = goes ∙ r .same }
 
-  pub leads-rest : length input ≤ e → Leads i e input s lined
-  leads-rest l = record {
-    gains = omega arith;
-    same = leads-line i e input s line q (sym z) d;
-  }
-
--- the first line is answered; n bytes of the line were read
-module _ (n code node u u′ : ℕ) (l k c l′ k′ c′ line out out′ : List ℕ) (x y : Record)
-    (e : prints code node (state l′ k′ c′ y) ≡ opened (read (take n line)) l k c)
-    (d : written out′ u′ ≡ putAll (written out u) (said code node)) (ls rs : List ℕ) where
-  pub begun-over : (code ≡ 0 → ⊥) → placed Over (state l′ k′ c′ y) ls rs (written line 0)
-      (written out′ u′)
-      ≡ begun (placed Opening (state l k c x) ls rs (written line n) (written out u))
-  unfolding begun
-  begun-over h =
-      rw (← e, ← d)
-      (ap (λ (st : Stage). placed st (state l′ k′ c′ y) ls rs (written line 0) (written out′ u′))
-      (pick-no Over _ _ _ (eq-no _ _ h) refl))
-
-  pub begun-second : code ≡ 0
-      → placed (Second (y .m)) (state l′ k′ c′ y) ls rs (written line 0) (written out′ u′)
-      ≡ begun (placed Opening (state l k c x) ls rs (written line n) (written out u))
-  unfolding begun
-  begun-second h =
-      rw (← e, ← d)
-      (ap (λ (st : Stage). placed st (state l′ k′ c′ y) ls rs (written line 0) (written out′ u′))
-      (pick-yes (Second (y .m)) _ _ _ (eq-yes _ _ h) refl))
-
--- Load answered
-module _ (m code node u u′ at : ℕ) (l k c l′ k′ c′ ls rs out out′ : List ℕ) (x y : Record)
-    (e : Replaces m (loaded (take (x .m) ls) (take (x .m) rs)) (state l k c x) code node
-    (state l′ k′ c′ y))
-    (d : written out′ u′ ≡ putAll (written out u) (said code node)) (line : List ℕ) where
-  leads-to : Stage → Stand
-  leads-to st =
-      stands st (drop m l) (drop m k) (drop m c) ls rs
-      (record {
-        state = state (take m l′) (take m k′) (take m c′) y;
-        line = written line 0;
-        out = written out′ u′;
-      })
-
-  pub filled-serving : code ≡ 0
-      → placed (Serving m) (state l′ k′ c′ y) ls rs (written line 0) (written out′ u′)
-      ≡ filled m (placed (Serving m) (state l k c x) ls rs (written line at) (written out u))
-  unfolding filled leads-to
-  filled-serving h =
-      rw (← e .front, ← d, e .left, e .right, e .colour)
-      (ap leads-to (pick-yes (Serving m) _ _ _ (eq-yes _ _ h) refl))
-
-  pub filled-stopped : (code ≡ 0 → ⊥)
-      → placed (Stopped m) (state l′ k′ c′ y) ls rs (written line 0) (written out′ u′)
-      ≡ filled m (placed (Serving m) (state l k c x) ls rs (written line at) (written out u))
-  unfolding filled leads-to
-  filled-stopped h =
-      rw (← e .front, ← d, e .left, e .right, e .colour)
-      (ap leads-to (pick-no (Stopped m) _ _ _ (eq-no _ _ h) refl))
-
--- the session is in this stage
-pub leads-staged : (i j : ℕ) (input l k c ls rs line out : List ℕ) (stage : Stage) (s : Session)
-    (t : Stand) → s .stage ≡ stage
-    → Leads i j input (placed stage (state l k c (s .run .rec)) ls rs (written line (s .run .at))
-    (written out (s .run .used))) t
-    → Leads i j input (stand s l k c ls rs line out) t
-leads-staged i j input l k c ls rs line out stage s t q r = rw q r
+  pub leads-rest : length input ≤ e
+      → Leads i e input (standing st g l k c ls rs line out)
+      (standing st (record { rec = g .rec; at = used; used = g .used }) l k c ls rs line′ out)
+  unfolding lined
+  leads-rest b = record { gains = omega arith; same = goes }
 
 -- e is where the session stands with its output empty, t where it stands when all is eaten
 pub blocks : (input : List ℕ) (j : ℕ) (e s t : Stand) → e ≡ emptied s
@@ -278,46 +246,27 @@ unfolding block fold
 blocks input j e s t p r h =
     sym (r ∙ rw (drop-of-length-le input {i = j} h)) ∙ ap (fold eats input) p
 
--- line n of an export has these edges
-module _ (m n a b at : ℕ) (l k c : List ℕ) (x : Record) (ls rs ls′ rs′ line : List ℕ)
-    (out : Written)
-    (p : ls′ ≡ set ls n a) (q : rs′ ≡ set rs n b) where
-  pub noted-more : true ≡ ltb (n + 1) (x .m)
-      → placed (Loading m (n + 1)) (state l k c x) ls′ rs′ (written line 0) out
-      ≡ noting m n (Edges a b) (placed (Serving m) (state l k c x) ls rs (written line at) out)
-  unfolding noting
-  noted-more h = rw (p, q) (pick-yes _ _ _ _ h refl)
-
-  pub noted-last : false ≡ ltb (n + 1) (x .m) → (t : Stand)
-      → t ≡ filled m (placed (Serving m) (state l k c x) ls′ rs′ (written line at) out)
-      → t ≡ noting m n (Edges a b) (placed (Serving m) (state l k c x) ls rs (written line at) out)
-  unfolding noting
-  noted-last h t e = pick-no _ _ _ _ h (e ∙ rw (p, q))
-
--- Load in the parts that were lent, of the parts of the lists
-pub replaced : (m n code node : ℕ) (l k c l′ k′ c′ ls rs : List ℕ) (a b d i j : ℕ) (x y : Record)
-    → Lent m a l l′ → Lent m b k k′ → Lent m d c c′ → i ≡ min n (length ls) → j ≡ min n (length rs)
-    → prints code node (state l′ k′ c′ y) ≡ loaded (take (i - 0) ls) (take (j - 0) rs)
-    (state (take (a - 0) l) (take (b - 0) k) (take (d - 0) c) x)
-    → Replaces m (loaded (take n ls) (take n rs)) (state l k c x) code node
-    (state (l′ ++ drop (a - 0) l) (k′ ++ drop (b - 0) k) (c′ ++ drop (d - 0) c) y)
-replaced m n code node l k c l′ k′ c′ ls rs a b d i j x y p q s u v e =
-    let w : take (i - 0) ls ≡ take n ls = rw (sub-zero, u) (front n ls) in
-    let z : take (j - 0) rs ≡ take n rs = rw (sub-zero, v) (front n rs) in
-    record {
-      front = rw (p .first, q .first, s .first) (rw (w, z, p .given, q .given, s .given) at e);
-      left = p .rest;
-      right = q .rest;
-      colour = s .rest;
-    }
+-- where a session stands, the stage is its own
+pub stage-of : (st : Stage) (g : Run) (l k c ls rs line out : List ℕ)
+    → standing st g l k c ls rs line out .stage ≡ st
+unfolding standing
+stage-of st g l k c ls rs line out = refl
 
 -- e is where the session stands before the end of the input is seen
-module _ (s e t : Stand) (r : t ≡ closed (e .stage) e) where
-  pub finish-bare : true ≡ bare (s .stage) (s .going .line .used) → e ≡ emptied s → t ≡ finish s
-  unfolding finish
-  finish-bare q p = r ∙ ap (λ (e : Stand). closed (e .stage) e) (pick-yes _ _ _ _ q p)
+module _ (st st′ : Stage) (g : Run) (l k c ls rs line out : List ℕ) (e t : Stand)
+    (w : e .stage ≡ st′) (r : t ≡ closed st′ e) where
+  closes : t ≡ closed (e .stage) e
+  closes = r ∙ ap (λ (st : Stage). closed st e) (sym w)
 
-  pub finish-line : false ≡ bare (s .stage) (s .going .line .used) → e ≡ block (newline ∷ []) s
-      → t ≡ finish s
-  unfolding finish
-  finish-line q p = r ∙ ap (λ (e : Stand). closed (e .stage) e) (pick-no _ _ _ _ q p)
+  pub finish-bare : true ≡ bare st (g .at) → e ≡ emptied (standing st g l k c ls rs line out)
+      → t ≡ finish (standing st g l k c ls rs line out)
+  unfolding finish standing
+  finish-bare q p =
+      closes ∙ ap (λ (e : Stand). closed (e .stage) e) (pick-yes _ _ _ _ q p)
+
+  pub finish-line : false ≡ bare st (g .at)
+      → e ≡ block (newline ∷ []) (standing st g l k c ls rs line out)
+      → t ≡ finish (standing st g l k c ls rs line out)
+  unfolding finish standing
+  finish-line q p =
+      closes ∙ ap (λ (e : Stand). closed (e .stage) e) (pick-no _ _ _ _ q p)

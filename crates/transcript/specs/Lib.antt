@@ -1,3 +1,1 @@
-pub mod Transcript
-pub mod Feeding
 pub mod Leads

@@ -5,7 +5,7 @@ use mathlib.Core.Path.{_≡_, refl, _∙_}
 use lib.ListN.{length, drop}
 use native.Mathlib.Omega.{arith}
 use borrow.Author.Needs.{needs}
-use Rattle.transcript.specs.Feeding.{fold, stand, eats}
+use Rattle.session.specs.Feeding.{fold, stand, eats}
 use Rattle.transcript.proofs.Stands.{blocks}
 use Rattle.transcript.proofs.block.Statement.{statement}
 use Rattle.transcript.proofs.block.Tie as tie

@@ -1,4 +1,5 @@
 -- `closed` meets its contract: the same six cases.
+use Rattle.session.specs.Feeding.{standing, stopped}
 use borrow.Author.Needs.{needs}
 use Rattle.transcript.proofs.closed.Statement.{statement}
 use Rattle.transcript.proofs.closed.Tie as tie
@@ -34,6 +35,7 @@ same-length : tie.Need-same-length
 same-length c = search needs
 
 returns-3 : tie.Need-returns-3
+unfolding standing stopped
 returns-3 c =
     let at-stop = c .before .before in
     let at-stage = at-stop .before .before .before in

@@ -1,45 +1,39 @@
--- `end_line` meets its contract: each stage does at a newline what `lineEnded` says.
-use Rattle.transcript.proofs.Stands.{leads-all, leads-over, leads-opening, leads-loading}
-use Rattle.transcript.proofs.Stands.{leads-staged}
+-- `end_line` meets its contract: a line of each form does at a newline what `lineEnded` says.
+use mathlib.Core.Path.{sym, _∙_}
+use Rattle.transcript.proofs.Stands.{leads-first, leads-entry, leads-step, leads-unread}
 use borrow.Author.Needs.{needs}
 use Rattle.transcript.proofs.end_line.Statement.{statement}
 use Rattle.transcript.proofs.end_line.Tie as tie
 
+form-of-requires : tie.Need-form-of-requires
+form-of-requires c κs = search needs
+
 enum-told : tie.Need-enum-told
 enum-told c = search needs
 
-add-t18 : tie.Need-add-t18
-add-t18 c = search needs
+add-t20 : tie.Need-add-t20
+add-t20 c = search needs
 
 begin-requires : tie.Need-begin-requires
 begin-requires c κs = search needs
 
-enum-known-stage : tie.Need-enum-known-stage
-enum-known-stage c = search needs
+enum-known-form : tie.Need-enum-known-form
+enum-known-form c = search needs
 
-second-requires : tie.Need-second-requires
-second-requires c κs = search needs
-
-enum-known-stage-2 : tie.Need-enum-known-stage-2
-enum-known-stage-2 c = search needs
-
-add-t44 : tie.Need-add-t44
-add-t44 c = search needs
+add-t32 : tie.Need-add-t32
+add-t32 c = search needs
 
 load-line-requires : tie.Need-load-line-requires
 load-line-requires c κs = search needs
 
-enum-known-stage-3 : tie.Need-enum-known-stage-3
-enum-known-stage-3 c = search needs
+enum-known-form-2 : tie.Need-enum-known-form-2
+enum-known-form-2 c = search needs
 
 serve-requires : tie.Need-serve-requires
 serve-requires c κs = search needs
 
 enum-told-2 : tie.Need-enum-told-2
 enum-told-2 c = search needs
-
-enum-told-3 : tie.Need-enum-told-3
-enum-told-3 c = search needs
 
 same-length : tie.Need-same-length
 same-length c = search needs
@@ -60,11 +54,12 @@ returns : tie.Need-returns
 returns c =
     let at-begin = c .before .before .before .before .before .before .before .before in
     let at-told = at-begin .before .before .before .before .before .before in
-    let at-entry = at-told .before .before .before .before .before .before .before .before .before
+    let at-form = at-told .before .before in
+    let at-entry = at-form .before .before .before .before .before .before .before .before .before
     .before .before in
-    leads-staged _ _ _ _ _ _ _ _ _ _ _ _ _ (at-told .enum-told .given .1)
-    (leads-opening _ _ (at-entry .pre .0) (at-entry .pre .1) _ _ _ _ _ _ _ _ _
-    (at-begin .begin .ensures _ _))
+    leads-first _ _ (at-entry .pre .0) (at-entry .pre .1) _ _ _ _ _ _ _ _ _ _
+    (sym (at-told .enum-told .given .1) ∙ at-form .form-of .ensures)
+    (at-begin .begin .ensures _ _)
 
 same-length-6 : tie.Need-same-length-6
 same-length-6 c = search needs
@@ -89,11 +84,15 @@ same-length-12 c = search needs
 
 returns-2 : tie.Need-returns-2
 returns-2 c =
-    let at-second = c .before .before .before .before .before .before .before .before .before
-    .before .before .before .before .before in
-    let at-stage = at-second .before .before .before .before .before .before .before .before .before
+    let at-line = c .before .before .before .before .before .before .before .before .before .before
+    .before .before in
+    let at-known = at-line .before .before .before .before .before .before .before .before .before
     in
-    leads-staged _ _ _ _ _ _ _ _ _ _ _ _ _ (at-stage .stage .given .1) (at-second .second .ensures)
+    let at-form = at-known .before .before in
+    let at-entry = at-form .before .before .before .before .before .before .before .before .before
+    .before .before in
+    leads-entry _ _ (at-entry .pre .0) (at-entry .pre .1) _ _ _ _ _ _ _ _ _ _ _ _
+    (sym (at-known .form .given .1) ∙ at-form .form-of .ensures) (at-line .load-line .ensures)
 
 same-length-13 : tie.Need-same-length-13
 same-length-13 c = search needs
@@ -110,77 +109,42 @@ same-length-16 c = search needs
 same-length-17 : tie.Need-same-length-17
 same-length-17 c = search needs
 
+returns-3 : tie.Need-returns-3
+returns-3 c =
+    let at-serve = c .before .before .before .before .before .before .before .before .before .before
+    in
+    let at-known = at-serve .before .before .before .before .before .before .before in
+    let at-form = at-known .before .before in
+    let at-entry = at-form .before .before .before .before .before .before .before .before .before
+    .before .before in
+    leads-step _ _ (at-entry .pre .0) (at-entry .pre .1) _ _ _ _ _ _ _ _ _ _ _
+    (sym (at-known .form2 .given .1) ∙ at-form .form-of .ensures) (at-serve .serve .ensures _ _)
+
 same-length-18 : tie.Need-same-length-18
 same-length-18 c = search needs
 
-same-length-19 : tie.Need-same-length-19
-same-length-19 c = search needs
-
-returns-3 : tie.Need-returns-3
-returns-3 c =
-    let at-line = c .before .before .before .before .before .before .before .before .before .before
-    .before .before in
-    let at-stage = at-line .before .before .before .before .before .before .before .before .before
-    in
-    let at-entry = at-stage .before .before .before .before .before .before .before .before .before
-    .before .before in
-    leads-staged _ _ _ _ _ _ _ _ _ _ _ _ _ (at-stage .stage2 .given .1)
-    (leads-loading _ _ (at-entry .pre .0) (at-entry .pre .1) _ _ _ _ _ _ _ _ _ _ _
-    (at-line .load-line .ensures))
-
-same-length-20 : tie.Need-same-length-20
-same-length-20 c = search needs
-
-same-length-21 : tie.Need-same-length-21
-same-length-21 c = search needs
-
-same-length-22 : tie.Need-same-length-22
-same-length-22 c = search needs
-
-same-length-23 : tie.Need-same-length-23
-same-length-23 c = search needs
-
-same-length-24 : tie.Need-same-length-24
-same-length-24 c = search needs
-
 returns-4 : tie.Need-returns-4
 returns-4 c =
-    let at-serve = c .before .before .before .before .before .before .before .before .before .before
-    in
-    let at-stage = at-serve .before .before .before .before .before .before .before in
-    let at-entry = at-stage .before .before .before .before .before .before .before .before .before
+    let at-form = c .before .before in
+    let at-entry = at-form .before .before .before .before .before .before .before .before .before
     .before .before in
-    leads-staged _ _ _ _ _ _ _ _ _ _ _ _ _ (at-stage .stage3 .given .1)
-    (leads-all _ _ _ _ (at-entry .pre .0) (at-serve .serve .ensures _ _))
-
-returns-5 : tie.Need-returns-5
-returns-5 c =
-    let at-entry = c .before .before .before .before .before .before .before .before .before .before
-    .before in
-    leads-over _ _ _ (at-entry .pre .0) (rw (c .enum-told2 .given .1))
-
-returns-6 : tie.Need-returns-6
-returns-6 c =
-    let at-entry = c .before .before .before .before .before .before .before .before .before .before
-    .before in
-    leads-over _ _ _ (at-entry .pre .0) (rw (c .enum-told3 .given .1))
+    leads-unread _ _ _ _ _ _ _ _ _ _ _ (at-entry .pre .0)
+    (sym (c .enum-told2 .given .1) ∙ at-form .form-of .ensures)
 
 pub end-line-spec : {M : Type 1} → statement M
 end-line-spec =
     tie.close
     (tie.spec
+    form-of-requires
     enum-told
-    add-t18
+    add-t20
     begin-requires
-    enum-known-stage
-    second-requires
-    enum-known-stage-2
-    add-t44
+    enum-known-form
+    add-t32
     load-line-requires
-    enum-known-stage-3
+    enum-known-form-2
     serve-requires
     enum-told-2
-    enum-told-3
     same-length
     same-length-2
     same-length-3
@@ -200,14 +164,6 @@ end-line-spec =
     same-length-15
     same-length-16
     same-length-17
-    same-length-18
-    same-length-19
     returns-3
-    same-length-20
-    same-length-21
-    same-length-22
-    same-length-23
-    same-length-24
-    returns-4
-    returns-5
-    returns-6)
+    same-length-18
+    returns-4)

@@ -1,7 +1,7 @@
 -- `finish` meets its contract: a line at hand is ended by a newline, and an export that is not
 -- complete ends the run.
 use mathlib.Core.Path.{sym, _∙_}
-use Rattle.transcript.proofs.Stands.{finish-bare, finish-line}
+use Rattle.transcript.proofs.Stands.{stage-of, finish-bare, finish-line}
 use borrow.Author.Needs.{needs}
 use Rattle.transcript.proofs.finish.Statement.{statement}
 use Rattle.transcript.proofs.finish.Tie as tie
@@ -22,7 +22,8 @@ returns : tie.Need-returns
 returns c =
     let at-closed = c .before .before in
     let at-test = at-closed .before .before .before in
-    finish-bare _ _ _ (at-closed .closed .ensures _ _ _ _ _ _)
+    finish-bare _ _ _ _ _ _ _ _ _ _ _ _ (stage-of _ _ _ _ _ _ _ _ _)
+    (at-closed .closed .ensures _ _ _ _ _ _)
     (sym (at-test .if1 .taken) ∙ at-test .before .bare .ensures)
     (at-closed .before .emptied .ensures _ _ _ _ _ _ _)
 
@@ -63,7 +64,8 @@ returns-2 c =
     .before .before .before .before .before .before .before in
     let at-test = at-block .before .before .before .before .before .before .before .before .before
     in
-    finish-line _ _ _ (at-closed .closed2 .ensures _ _ _ _ _ _)
+    finish-line _ _ _ _ _ _ _ _ _ _ _ _ (stage-of _ _ _ _ _ _ _ _ _)
+    (at-closed .closed2 .ensures _ _ _ _ _ _)
     (sym (at-test .if1 .left) ∙ at-test .before .bare .ensures) (at-block .block .ensures)
 
 pub finish-spec : {M : Type 1} → statement M

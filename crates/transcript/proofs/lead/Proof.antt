@@ -2,7 +2,7 @@
 -- newline does follows; or the input ends before one.
 use mathlib.Core.Path.{sym, _∙_}
 use native.Mathlib.Omega.{arith}
-use Rattle.transcript.proofs.Feeds.{found, newline-at}
+use Rattle.session.proofs.Feeds.{found, newline-at}
 use Rattle.transcript.proofs.Stands.{leads-over, leads-on, leads-rest}
 use borrow.Author.Needs.{needs}
 use Rattle.transcript.proofs.lead.Statement.{statement}
@@ -15,7 +15,8 @@ returns : tie.Need-returns
 returns c =
     let at-entry = c .before .before .before .before .before .before .before .before .before .before
     in
-    leads-over _ _ _ (at-entry .pre) (sym (c .if1 .taken) ∙ c .before .is-over .ensures)
+    leads-over _ _ _ _ _ _ _ _ _ _ _ (at-entry .pre) (sym (c .if1 .taken) ∙ c .before .is-over
+    .ensures)
 
 newline-from-requires : tie.Need-newline-from-requires
 newline-from-requires c κs = search needs
@@ -87,7 +88,7 @@ returns-2 c =
     let at-over = at-newline .before .before in
     let at-entry = at-over .before .before .before .before .before .before .before .before .before
     .before in
-    leads-on _ _ _ _ _ (at-newline .newline-from .ensures) (at-entry .pre)
+    leads-on _ _ _ _ _ _ _ _ _ _ _ _ _ _ (at-newline .newline-from .ensures) (at-entry .pre)
     (sym (at-over .if1 .left) ∙ at-over .before .is-over .ensures) (at-put .put-all .ensures) _ _
     (at-end .end-line .ensures)
 
@@ -101,7 +102,7 @@ returns-3 c =
     let at-over = at-newline .before .before in
     let at-entry = at-over .before .before .before .before .before .before .before .before .before
     .before in
-    leads-rest _ _ _ _ _ (at-newline .newline-from .ensures) (at-entry .pre)
+    leads-rest _ _ _ _ _ _ _ _ _ _ _ _ _ _ (at-newline .newline-from .ensures) (at-entry .pre)
     (sym (at-over .if1 .left) ∙ at-over .before .is-over .ensures) (at-put .put-all .ensures)
     (c .if2 .left)
 

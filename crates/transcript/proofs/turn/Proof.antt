@@ -2,8 +2,8 @@
 -- what was read.
 use native.Mathlib.Nat.{sub-zero}
 use Rattle.base.proofs.Tests.{pick-yes, pick-no, eq-yes, eq-no}
-use Rattle.transcript.specs.Feeding.{turn}
-use Rattle.transcript.proofs.Parts.{front}
+use Rattle.session.specs.Feeding.{turn}
+use Rattle.session.proofs.Parts.{front}
 use borrow.Author.Needs.{needs}
 use Rattle.transcript.proofs.turn.Statement.{statement}
 use Rattle.transcript.proofs.turn.Tie as tie

@@ -1,0 +1,4 @@
+pub mod Kept
+pub mod Whole
+pub mod Listing
+pub mod Determined
