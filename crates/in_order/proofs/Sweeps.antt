@@ -65,7 +65,7 @@ at-roots l k c x i p h =
 pub record At (ll rl cl : ℕ) (x : Record) (s : AppendAt) : Type 0 where
   pub i : s .i < x .m
   pub last : s .last < x .m
-  pub free : s .free ≤ x .m
+  pub free : x .free + (s .d - s .changed) ≤ x .m
   pub steps : x .steps + s .d < manySteps
   pub sizes : Sized (x .m) ll rl cl
 
@@ -85,11 +85,13 @@ at l k c x s p =
 
 -- the position that stands for x
 abbrev pub begun : Record → ℕ → AppendAt
-begun x i = record { i = i; last = x .last; free = x .free; d = 0; changed = 0 }
+begun x i = record { i = i; last = x .last; d = 0; changed = 0 }
 
 start : (x : Record) (i : ℕ) → x .phase ≡ Append i → swept x (begun x i) ≡ x
 unfolding swept
-start x i h = let s : x .steps + 0 ≡ x .steps = omega arith in rw (s, ← h)
+start x i h =
+    let s : x .steps + 0 ≡ x .steps = omega arith in
+    let f : x .free + 0 ≡ x .free = omega arith in rw (s, f, ← h)
 
 pub begins : (l k c : List ℕ) (x : Record) (i : ℕ) → x .phase ≡ Append i → Passes (state l k c x)
     → Passes (state l k c (swept x (begun x i)))
@@ -133,34 +135,37 @@ module _ (l k c : List ℕ) (x : Record) (s : AppendAt) (p : Passes (state l k c
 
   module _ (r : AppendAt) (b : Room x (s .d + 1)) (q : s .i + 1 < x .m) (i : r .i ≡ s .i + 1)
       (d : r .d ≡ s .d + 1) where
-    pub whitens : r .last ≡ s .last → r .free ≡ s .free → r .changed ≡ s .changed + 1
-        → getD c (s .i) 0 ≡ 2 → AppendLeads l k c x s l k (set c (s .i) 0) r
+    pub whitens : r .last ≡ s .last → r .changed ≡ s .changed + 1 → getD c (s .i) 0 ≡ 2
+        → AppendLeads l k c x s l k (set c (s .i) 0) r
     unfolding swept
-    whitens e w u v =
+    whitens e u v =
         let z = b .steps in
         let n : r .d - s .d ≡ 1 = omega arith in
         let o : r .changed - s .changed ≡ 1 = omega arith in
         let t : x .steps + (s .d + 1) ≡ x .steps + s .d + 1 = omega arith in
+        let w : s .d + 1 - (s .changed + 1) ≡ s .d - s .changed = omega arith in
         record {
           low = omega arith;
           counted = omega arith;
-          leads = rw (n, o, i, e, w, d, t) (strides.whitens l k c (swept x s) (s .i) p (omega arith)
+          leads = rw (n, o, i, e, d, u, w, t) (strides.whitens l k c (swept x s) (s .i) p (omega arith)
               refl q v);
         }
 
-    pub appends : r .last ≡ s .i → r .free ≡ s .free + 1 → r .changed ≡ s .changed
+    pub appends : r .last ≡ s .i → r .changed ≡ s .changed → s .changed ≤ s .d
         → getD c (s .i) 0 ≡ 0 → x .r + 1 < s .i → (s .i ≡ s .last → ⊥)
-        → s .free < x .m - (x .r + 2)
+        → x .free + (s .d - s .changed) < x .m - (x .r + 2)
         → AppendLeads l k c x s (set (set l (s .i) 0) (s .last) (s .i)) (set k (s .i) 0) c r
     unfolding swept
-    appends e w u v f g h =
+    appends e u a v f g h =
         let z = b .steps in
         let n : r .d - s .d ≡ 1 = omega arith in
         let o : r .changed - s .changed ≡ 0 = omega arith in
         let t : x .steps + (s .d + 1) ≡ x .steps + s .d + 1 = omega arith in
+        let w : x .free + (s .d + 1 - s .changed) ≡ x .free + (s .d - s .changed) + 1 = omega arith
+        in
         record {
           low = omega arith;
           counted = omega arith;
-          leads = rw (n, o, i, e, w, d, t) (strides.appends l k c (swept x s) (s .i) p (omega arith)
+          leads = rw (n, o, i, e, d, u, w, t) (strides.appends l k c (swept x s) (s .i) p (omega arith)
               refl q v f g h);
         }

@@ -21,10 +21,10 @@ pub record Shades (c : List ℕ) (i cap d v : ℕ) (c′ : List ℕ) : Type 0 wh
       → i + cap ≤ x .r + 1
       → Leads (state l k c x) d v (state l k c′ (rooted x i d))
 
--- the record at s
+-- the record at s; a step that changed no colour appended a node
 unfoldable pub swept : Record → AppendAt → Record
 swept x s =
-    let counted = withFree (withSteps x (x .steps + s .d)) (s .free) in
+    let counted = withFree (withSteps x (x .steps + s .d)) (x .free + (s .d - s .changed)) in
     withPhase (withLast counted (s .last)) (Append (s .i))
 
 -- steps lead from s to r

@@ -3,7 +3,7 @@ use ahead::Ahead;
 use rules::Phase;
 use rules::Record;
 ghost use mathlib.Core.Path.{_≡_};
-ghost use Prim.Native.Nat.{_+_, _<_, _≤_};
+ghost use Prim.Native.Nat.{_+_, _-_, _<_, _≤_};
 ghost use lib.ListN.{length, getD};
 ghost use Rattle.rules.specs.Table.{mostNodes, state};
 ghost use Rattle.rules.specs.Facts.{manySteps};
@@ -13,12 +13,11 @@ ghost use Rattle.in_order.specs.Sweeping.{rooted, Shades, swept, AppendL
 ghost use Rattle.base.specs.Lent.{was, is};
 ghost use Rattle.rules.specs.Lent.{given};
 
-// Where the appending stands: Append i, the end of the free list, how many nodes are free, the
-// steps made here, and how many colours they changed.
+// Where the appending stands: Append i, the end of the free list, the steps made here, and how many
+// colours they changed. The other steps appended a node each, so that number is not kept.
 struct AppendAt {
     i: usize,
     last: usize,
-    free: usize,
     d: usize,
     changed: usize,
 }
@@ -60,12 +59,13 @@ fn rooted(mut x: Record, i: usize, d: usize) -> Record
 fn swept(mut x: Record, s: AppendAt) -> Record
     requires { ⌜ s .i < mostNodes ⌝ }
     requires { ⌜ s .last < mostNodes ⌝ }
-    requires { ⌜ s .free ≤ mostNodes ⌝ }
+    requires { ⌜ s .changed ≤ s .d ⌝ }
+    requires { ⌜ x .free + (s .d - s .changed) ≤ mostNodes ⌝ }
     requires { ⌜ x .steps + s .d < manySteps ⌝ }
     ensures { λ r. ⌜ r ≡ swept x s ⌝ }
 {
     x.steps = x.steps + s.d as u32;
-    x.free = s.free as u16;
+    x.free = x.free + (s.d - s.changed) as u16;
     x.last = s.last as u16;
     x.with_phase(Phase::Append(s.i as u16))
 }
@@ -99,6 +99,7 @@ fn append_white(
 ) -> AppendAt
     requires { ⌜ Passes (state (now left) (now right) (now colour) (swept x s)) ⌝ }
     requires { ⌜ Room x (s .d + 1) ⌝ }
+    requires { ⌜ s .changed ≤ s .d ⌝ }
     requires { ⌜ s .i + 1 < x .m ⌝ }
     requires { ⌜ getD (now colour) (s .i) 0 ≡ 0 ⌝ }
     ensures { λ r. ⌜ (r .d ≤ s .d + 1) × AppendLeads (was left) (was right) (was colour) x s
@@ -106,13 +107,13 @@ fn append_white(
 {
     let i = s.i;
     let last = s.last;
-    let free = s.free;
     if i <= x.r as usize + 1 {
         return s;
     }
     if i == last {
         return s;
     }
+    let free = x.free as usize + (s.d - s.changed);
     if x.m as usize <= free + x.r as usize + 2 {
         return s;
     }
@@ -122,7 +123,6 @@ fn append_white(
     AppendAt {
         i: i + 1,
         last: i,
-        free: free + 1,
         d: s.d + 1,
         changed: s.changed,
     }
@@ -151,7 +151,6 @@ fn append_one(
         return AppendAt {
             i: i + 1,
             last: s.last,
-            free: s.free,
             d: s.d + 1,
             changed: s.changed + 1,
         };
@@ -206,7 +205,6 @@ pub fn appends(
     let from = AppendAt {
         i: i as usize,
         last: x.last as usize,
-        free: x.free as usize,
         d: 0,
         changed: 0,
     };

@@ -54,7 +54,7 @@ returns-2 c =
     at _ _ _ _ _ (at-entry .pre .0) in (
       omega arith,
       whitens _ _ _ _ _ (at-entry .pre .0) _ (at-entry .pre .1 .0)
-          (omega arith) refl refl refl refl refl (c .before .before .if2 .taken),
+          (omega arith) refl refl refl refl (c .before .before .if2 .taken),
     )
 
 slice-read-if3 : tie.Need-slice-read-if3
@@ -71,7 +71,7 @@ append-white-requires c κs =
       at-entry .pre .0,
       (
         at-entry .pre .1 .0,
-        (omega arith, c .before .before .before .if3 .taken),
+        (at-entry .pre .1 .1, (omega arith, c .before .before .before .if3 .taken)),
       ),
     )
 

@@ -3,19 +3,16 @@
 use native.Mathlib.Omega.{arith}
 use borrow.Author.Needs.{needs}
 use Rattle.in_order.specs.Sweeping.{swept}
-use Rattle.in_order.proofs.Sweeps.{at, begins, ends}
+use Rattle.in_order.proofs.Sweeps.{at, begins, ends, told}
 use Rattle.in_order.proofs.appends.Statement.{statement}
 use Rattle.in_order.proofs.appends.Tie as tie
 
 cast-t10 : tie.Need-cast-t10
 cast-t10 c = search needs
 
-cast-t11 : tie.Need-cast-t11
-cast-t11 c = search needs
-
 appending-requires : tie.Need-appending-requires
 appending-requires c κs =
-    let at-entry = c .before .before .before .before .before .before .before .before in (
+    let at-entry = c .before .before .before .before .before .before .before in (
       begins _ _ _ _ _ (at-entry .pre .1 .1) (at-entry .pre .0),
       (at-entry .pre .1 .0, (omega arith, omega arith)),
     )
@@ -23,7 +20,9 @@ appending-requires c κs =
 swept-requires : tie.Need-swept-requires
 swept-requires c κs =
     let at-appending = c .before .before .before .before .before .before in
-    let g = at _ _ _ _ _ (at-appending .appending .ensures .1 .leads .passes) in omega arith
+    let g = at _ _ _ _ _ (at-appending .appending .ensures .1 .leads .passes) in
+    let f = told _ _ _ _ _ _ _ _ _ (at-appending .appending .ensures .1) (omega arith) in
+    omega arith
 
 same-length : tie.Need-same-length
 same-length c = search needs
@@ -37,8 +36,7 @@ same-length-3 c = search needs
 returns : tie.Need-returns
 returns c =
     let at-appending = c .before .before .before .before .before .before .before in
-    let at-entry = at-appending .before .before .before .before .before .before .before .before
-    .before in (
+    let at-entry = at-appending .before .before .before .before .before .before .before .before in (
       at-appending .appending .ensures .0,
       rw (c .swept .ensures)
           (ends _ _ _ _ _ _ _ _ (at-entry .pre .1 .1)
@@ -50,7 +48,6 @@ appends-spec =
     tie.close
     (tie.spec
     cast-t10
-    cast-t11
     appending-requires
     swept-requires
     same-length

@@ -10,14 +10,20 @@ cast-x c = search needs
 add-x : tie.Need-add-x
 add-x c = search needs
 
+sub-x : tie.Need-sub-x
+sub-x c = search needs
+
 cast-x-2 : tie.Need-cast-x-2
 cast-x-2 c = search needs
+
+add-x-2 : tie.Need-add-x-2
+add-x-2 c = search needs
 
 cast-x-3 : tie.Need-cast-x-3
 cast-x-3 c = search needs
 
-cast-t4 : tie.Need-cast-t4
-cast-t4 c = search needs
+cast-t5 : tie.Need-cast-t5
+cast-t5 c = search needs
 
 with-phase-requires : tie.Need-with-phase-requires
 with-phase-requires c κs = search needs
@@ -27,4 +33,6 @@ unfolding swept
 returns c = search needs
 
 pub swept-spec : {M : Type 1} → statement M
-swept-spec = tie.close (tie.spec cast-x add-x cast-x-2 cast-x-3 cast-t4 with-phase-requires returns)
+swept-spec =
+    tie.close
+    (tie.spec cast-x add-x sub-x cast-x-2 add-x-2 cast-x-3 cast-t5 with-phase-requires returns)
