@@ -35,10 +35,10 @@ static uint32_t words[JENTURIK_WORDS];
 #define TABLE left, NODES, right, NODES, colour, NODES, words
 
 /* What a node means is ours to keep, under its number: the light that a layer or a tint lets
- * through, in percent. */
+ * through, in percent; 0 where nothing is kept. */
 static uint8_t clear[NODES];
 
-static unsigned taken, refused;
+static unsigned taken, refused, kept;
 
 /* Places: where to find a node. A slot, a number of turns, and the turns as bits, the first lowest:
  * 0 left, 1 right. Each is three arguments. */
@@ -79,7 +79,7 @@ static int hung(jenturik_told a, uint32_t light) {
     switch (a.code) {
     case JENTURIK_DONE:
         clear[a.node] = (uint8_t)light;
-        taken++;
+        taken++, kept++;
         return 1;
     case JENTURIK_NO_FREE_NODE:
         refused++;
@@ -156,6 +156,19 @@ static unsigned draw(void) {
     return sum / PANES / 100;
 }
 
+/* The frame's collector steps. What is kept for the nodes that they free is dropped; that is where
+ * a viewer gives its textures back. */
+static void collect(void) {
+    static uint16_t freed[NODES]; /* a list of this length is never full */
+    jenturik_freed a = jenturik_collect_freed(TABLE, BUDGET, freed, NODES);
+    for (unsigned i = 0; i < a.freed; i++) clear[freed[i]] = 0;
+    kept -= a.freed;
+    if (a.code != JENTURIK_DONE) { /* the next step is refused for the same reason */
+        jenturik_told told = jenturik_collect(TABLE);
+        stop("collect", told.code, told.detail, told.node);
+    }
+}
+
 /* The panel's figures, asked anew in each frame. In use are the layers and tints that can be seen,
  * and what lies on the bench. */
 static unsigned count_in_use(void) {
@@ -176,21 +189,22 @@ int main(void) {
         return fputs("viewer: NODES or SLOTS is out of range\n", stderr), 1;
     printf("The lobby's glazing: %d panes, %d nodes, %d collector steps a frame.\n", PANES, NODES,
            BUDGET);
-    puts("In use are the nodes that some slot leads to, free those that can be taken.");
+    puts(
+        "In use are the nodes that some slot leads to, free those that can be taken; kept is what");
+    puts("we keep for nodes that are not free.");
     for (int frame = 1; frame <= SECONDS * FRAMES; frame++) {
         int second = (frame - 1) / FRAMES + 1;
         if (frame == 4 * FRAMES + 1)
             puts("The client comes at six: both designers try every look that they have.");
         if (frame == 8 * FRAMES + 1) puts("The client likes the third.");
         edit(second >= 5 && second <= 8 ? 30 : 3);
-        jenturik_last steps = jenturik_collect_many(TABLE, BUDGET);
-        if (steps.code != JENTURIK_DONE) stop("collect_many", steps.code, steps.detail, steps.node);
+        collect();
         unsigned light = draw(), used = count_in_use(), unused = count_free();
         if (frame % FRAMES == 0)
-            printf("second %2d: frame %3d, %3u in use, %3u free, %3u cycles, %4u taken, %3u "
-                   "refused, light %2u%%\n",
-                   second, frame, used, unused, (unsigned)words[JENTURIK_CYCLES], taken, refused,
-                   light);
+            printf("second %2d: frame %3d, %3u in use, %3u kept, %3u free, %3u cycles, %4u taken, "
+                   "%3u refused, light %2u%%\n",
+                   second, frame, used, kept, unused, (unsigned)words[JENTURIK_CYCLES], taken,
+                   refused, light);
     }
     return 0;
 }

@@ -1,15 +1,22 @@
 /* Jenturik: an on-the-fly garbage collector for graphs of nodes with two edges each.
  *
- * `rt staticlib jenturik_c` makes target/staticlib/libjenturik_c.a, for x86-64 Linux. It needs no
- * other library:
+ * `./library` makes target/library/TARGET/libjenturik.a, for Linux on x86-64 and on 64-bit Arm and
+ * for Android on 64-bit Arm, with this header beside it. It needs no other library, not even libc:
  *
- *     cc -Iinclude program.c target/staticlib/libjenturik_c.a
+ *     cc -Itarget/library/x86-64-linux program.c target/library/x86-64-linux/libjenturik.a
+ *
+ * What each call does is proved, for all arguments, of the library's LLVM module, which is one and
+ * the same for all machines. What is below that is trusted, not proved: LLVM's back end for the
+ * machine, two loops in C that fill and copy bytes, the linker and the processor.
+ *
+ * jenturik_table.h has the same calls over a struct, with one pointer to hand over. With
+ * jenturik_record.h the calls of a program become a file that the program ./jenturik replays.
  *
  * How it is used
  *
  * Make a table once (jenturik_fresh, or jenturik_load with edges that are there already). Edit the
  * graph with jenturik_take and jenturik_link; call jenturik_shade after each link. Spend some
- * collector steps each frame (jenturik_collect_many).
+ * collector steps each frame (jenturik_collect_many, or jenturik_collect_freed).
  * The collector finds the nodes that no slot leads to, and makes them free. How many nodes slots
  * lead to is told by jenturik_in_use, how many are free by jenturik_free_count. examples/viewer.c
  * is such a program.
@@ -26,9 +33,9 @@
  * n's left edge leads to), and must not write to them.
  *
  * What a node stands for is kept by the caller, under the node's number, which jenturik_take
- * answers. The number stays valid as long as a slot leads to the node. jenturik_collect_many does
- * not report which nodes it freed: overwrite what you keep when a number is taken again, or walk
- * the free list.
+ * answers. The number stays valid as long as a slot leads to the node. jenturik_collect_freed makes
+ * collector steps and lists the nodes that they freed: drop what you keep for these. With
+ * jenturik_collect_many, which tells none, overwrite it when a number is taken again.
  *
  * Nodes, slots and places
  *
@@ -71,7 +78,7 @@
  * Let B = M * M + 7 * M + R + 2. A cycle takes at most B collector steps. A node that no slot leads
  * to is free again after at most 3 * B, however busy the program is; usually much sooner. After
  * code 9 make collector steps and try again. If 3 * B of them do not help, nothing was garbage, and
- * the table is full.
+ * the table is full. jenturik_bound(M, R) is B.
  *
  * Threads
  *
@@ -82,6 +89,30 @@
 
 #include <stddef.h>
 #include <stdint.h>
+
+#if SIZE_MAX != UINT64_MAX
+#error "jenturik.h is for 64-bit machines; for WebAssembly there is jenturik.mjs"
+#endif
+
+/* The version of this header. jenturik_version() answers that of the library. */
+#define JENTURIK_VERSION "4.7"
+#define JENTURIK_VERSION_MAJOR 4
+#define JENTURIK_VERSION_MINOR 7
+#define JENTURIK_VERSION_NUMBER (1000 * JENTURIK_VERSION_MAJOR + JENTURIK_VERSION_MINOR)
+
+/* The compiler warns where an answer is forgotten that should not be. Define this as nothing before
+ * the header to be spared. */
+#ifndef JENTURIK_NODISCARD
+#if defined(__cplusplus) && __cplusplus >= 201703L
+#define JENTURIK_NODISCARD [[nodiscard]]
+#elif defined(__STDC_VERSION__) && __STDC_VERSION__ >= 202311L
+#define JENTURIK_NODISCARD [[nodiscard]]
+#elif defined(__GNUC__)
+#define JENTURIK_NODISCARD __attribute__((warn_unused_result))
+#else
+#define JENTURIK_NODISCARD
+#endif
+#endif
 
 #ifdef __cplusplus
 extern "C" {
@@ -200,6 +231,16 @@ typedef struct {
     uint8_t code : 5, detail : 3;
 } jenturik_last;
 
+/* The answer of many collector steps that list the nodes that they freed: how many steps were done,
+ * how many colours they changed in all (UINT32_MAX where that does not fit), how many nodes were
+ * written to the list, and the refused step's code and detail, or 0. */
+typedef struct {
+    size_t done;
+    uint32_t changed;
+    uint16_t freed;
+    uint8_t code, detail;
+} jenturik_freed;
+
 /* A step of a schedule. The kinds are take 0, link 1, shade 2, one collector step 3, look 4. A
  * kind reads only the fields that it needs. The unused words are 0, whatever the kind is. */
 typedef struct {
@@ -209,11 +250,23 @@ typedef struct {
 /* How many words a step has. */
 enum { JENTURIK_STEP_WORDS = 12 };
 
+/* Answers the library's version, as JENTURIK_VERSION_NUMBER has it. If it is another one than the
+ * header's, compile the program anew with the header that the library came with. */
+JENTURIK_NODISCARD
+uint32_t jenturik_version(void);
+
+/* B, the most collector steps that a cycle takes. */
+static inline size_t jenturik_bound(uint32_t nodes, uint32_t slots) {
+    size_t m = nodes, r = slots;
+    return m * m + 7 * m + r + 2;
+}
+
 /* Makes a fresh table of `nodes` nodes and `slots` slots in arrays of `nodes` entries, and its
  * record: no edges, every node white, the nodes from R + 2 on free, in rising order. Answers the
  * last free node. Writes all three arrays and the words.
  * If it is refused (1), the arrays stay as they are and the words become all 0: the record of a
  * table of no nodes, which every other call refuses with 1. */
+JENTURIK_NODISCARD
 jenturik_told jenturik_fresh(uint16_t *left, size_t lefts, uint16_t *right, size_t rights,
                              uint8_t *colour, size_t colours, uint32_t words[JENTURIK_WORDS],
                              uint32_t nodes, uint32_t slots);
@@ -226,6 +279,7 @@ jenturik_told jenturik_fresh(uint16_t *left, size_t lefts, uint16_t *right, size
  * these. On the stack it keeps arrays of 44 KiB.
  * If it is refused (1, 11, 12, 13), the arrays stay as they are and the words become all 0, as with
  * jenturik_fresh. */
+JENTURIK_NODISCARD
 jenturik_told jenturik_load(uint16_t *left, size_t lefts, uint16_t *right, size_t rights,
                             uint8_t *colour, size_t colours, uint32_t words[JENTURIK_WORDS],
                             const uint32_t *given_left, size_t given_lefts,
@@ -233,6 +287,7 @@ jenturik_told jenturik_load(uint16_t *left, size_t lefts, uint16_t *right, size_
                             uint32_t slots);
 
 /* Names the node at a place, 0 for NIL. Writes nothing. */
+JENTURIK_NODISCARD
 jenturik_told jenturik_look(const uint16_t *left, size_t lefts, const uint16_t *right,
                             size_t rights, const uint8_t *colour, size_t colours,
                             const uint32_t words[JENTURIK_WORDS], uint32_t slot, uint32_t count,
@@ -245,6 +300,7 @@ jenturik_told jenturik_look(const uint16_t *left, size_t lefts, const uint16_t *
  * Refused with 1, 2, and with 7 if a slot, or a node that some slot leads to, has a bad edge, which
  * leads nowhere: the answer has the lowest such node, and in the detail the side; left, if both are
  * bad. Bad edges of other nodes, NIL's among them, do not matter. */
+JENTURIK_NODISCARD
 jenturik_told jenturik_in_use(const uint16_t *left, size_t lefts, const uint16_t *right,
                               size_t rights, const uint8_t *colour, size_t colours,
                               const uint32_t words[JENTURIK_WORDS]);
@@ -256,6 +312,7 @@ jenturik_told jenturik_in_use(const uint16_t *left, size_t lefts, const uint16_t
  * what the words say. Writes nothing. Refused with 1 and 2 only. Like every other call it answers 2
  * if the number is above M - R - 2, if it is 0 and last is not 1, and if last is 1 and it is
  * not 0. */
+JENTURIK_NODISCARD
 jenturik_told jenturik_free_count(const uint16_t *left, size_t lefts, const uint16_t *right,
                                   size_t rights, const uint8_t *colour, size_t colours,
                                   const uint32_t words[JENTURIK_WORDS]);
@@ -264,6 +321,7 @@ jenturik_told jenturik_free_count(const uint16_t *left, size_t lefts, const uint
  * the target place (toslot, tocount, toword). Answers the target, whose shade is then owed: call
  * jenturik_shade before the next link or take. Looks and collector steps may come between. Writes
  * one edge and the words. */
+JENTURIK_NODISCARD
 jenturik_told jenturik_link(uint16_t *left, size_t lefts, uint16_t *right, size_t rights,
                             const uint8_t *colour, size_t colours, uint32_t words[JENTURIK_WORDS],
                             uint32_t slot, uint32_t count, uint32_t word, uint32_t side,
@@ -278,6 +336,7 @@ jenturik_told jenturik_shade(const uint16_t *left, size_t lefts, const uint16_t 
  * this side, to it. The left edge of the node taken becomes NIL; its right edge is NIL in every run
  * from a fresh or loaded table. Answers the node taken. Writes three edges, at most two colours and
  * the words. */
+JENTURIK_NODISCARD
 jenturik_told jenturik_take(uint16_t *left, size_t lefts, uint16_t *right, size_t rights,
                             uint8_t *colour, size_t colours, uint32_t words[JENTURIK_WORDS],
                             uint32_t slot, uint32_t count, uint32_t word, uint32_t side);
@@ -294,15 +353,30 @@ jenturik_last jenturik_collect_many(uint16_t *left, size_t lefts, uint16_t *righ
                                     uint8_t *colour, size_t colours, uint32_t words[JENTURIK_WORDS],
                                     size_t n);
 
+/* Makes n collector steps, as jenturik_collect_many does, and writes the nodes that they append to
+ * the free list to freed[0], freed[1], .., in that order. It stops before n if the list is full:
+ * after `freeds` nodes, and after 65535 in any case. Then call it again to go on. A list of M
+ * entries is never full. If freeds is 0 no step is made, and codes 1 and 2 are judged, as they are
+ * if n is 0. What the list has behind the nodes stays as it was. It overlaps none of the arrays.
+ * A refusal has no node here: the next jenturik_collect is refused with the same code and detail,
+ * and tells it. */
+JENTURIK_NODISCARD
+jenturik_freed jenturik_collect_freed(uint16_t *left, size_t lefts, uint16_t *right, size_t rights,
+                                      uint8_t *colour, size_t colours,
+                                      uint32_t words[JENTURIK_WORDS], size_t n, uint16_t *freed,
+                                      size_t freeds);
+
 /* Makes the steps of a schedule in order, until one is refused. The refused step changes nothing;
  * the steps before it stay done. The steps are `numbers` words, JENTURIK_STEP_WORDS to a step in
  * the order of jenturik_step. If `numbers` is no multiple of that, nothing is done and the code
  * is 10. Codes 1 and 2 are judged first, for an empty schedule too. The steps are not written. */
+JENTURIK_NODISCARD
 jenturik_done jenturik_schedule(uint16_t *left, size_t lefts, uint16_t *right, size_t rights,
                                 uint8_t *colour, size_t colours, uint32_t words[JENTURIK_WORDS],
                                 const uint32_t *steps, size_t numbers);
 
 /* The same over an array of `count` steps. */
+JENTURIK_NODISCARD
 static inline jenturik_done jenturik_schedule_steps(uint16_t *left, size_t lefts, uint16_t *right,
                                                     size_t rights, uint8_t *colour, size_t colours,
                                                     uint32_t words[JENTURIK_WORDS],

@@ -15,6 +15,8 @@ enum {
     COLLECT,
     MANY,
     MANY_NONE,
+    FREED,
+    FREED_NONE,
     SCHEDULE,
     SCHEDULE_EMPTY,
     SCHEDULE_RAGGED,
@@ -30,12 +32,14 @@ static const char *const call_names[CALLS] = {"look",
                                               "collect",
                                               "collect_many",
                                               "collect_many of none",
+                                              "collect_freed",
+                                              "collect_freed into no list",
                                               "schedule",
                                               "schedule of no steps",
                                               "schedule of ragged length"};
 
 /* What any of the calls answers; done is 0 or 1 where the call is of one step, and what and node
- * are 0 for a schedule. */
+ * are 0 for a schedule and for collect_freed. */
 typedef struct {
     size_t done;
     uint32_t what, code, detail, node, changed;
@@ -65,6 +69,17 @@ static inline answer call_schedule(lent *t, size_t numbers) {
     return all;
 }
 
+/* Three collector steps, with a list of so many nodes, on the room of the steps. */
+static inline answer call_freed(lent *t, size_t nodes) {
+    static const uint16_t list[2];
+    uint16_t *freed = fence_lay(&call_steps, list, sizeof *list * nodes, 1);
+    jenturik_freed a = jenturik_collect_freed(LENT(t), 3, freed, nodes);
+    if (!fence_kept(&call_steps)) fence_fail("collect_freed wrote outside its list");
+    if (a.freed > nodes) fence_fail("collect_freed tells more nodes than there is room for");
+    answer all = {a.done, 0, a.code, a.detail, 0, a.changed};
+    return all;
+}
+
 static inline answer call(lent *t, int which) {
     switch (which) {
     case LOOK:
@@ -85,6 +100,10 @@ static inline answer call(lent *t, int which) {
         return of_last(jenturik_collect_many(LENT(t), 3));
     case MANY_NONE:
         return of_last(jenturik_collect_many(LENT(t), 0));
+    case FREED:
+        return call_freed(t, 2);
+    case FREED_NONE:
+        return call_freed(t, 0);
     case SCHEDULE:
         return call_schedule(t, 2 * JENTURIK_STEP_WORDS);
     case SCHEDULE_EMPTY:

@@ -26,8 +26,8 @@ static void make_pair(uint32_t m, uint32_t r, uint32_t last, uint32_t count) {
 
 /* The bad table's record passes, and Free count answers this; everything stays. */
 static void passes(uint32_t count, const char *why) {
-    static const int calls[] = {LOOK, IN_USE, FREE_COUNT, MANY_NONE, SCHEDULE_EMPTY};
-    for (int i = 0; i < 10; i++) {
+    static const int calls[] = {LOOK, IN_USE, FREE_COUNT, MANY_NONE, FREED_NONE, SCHEDULE_EMPTY};
+    for (int i = 0; i < 12; i++) {
         lend(&t, &bad, i % 2);
         answer a = call(&t, calls[i / 2]);
         take_back(&t, &after);

@@ -32,6 +32,8 @@ jenturik_told __real_jenturik_shade(COLOUR_ARRAYS, uint32_t *words);
 jenturik_told __real_jenturik_take(ARRAYS, uint32_t *words, PLACE, uint32_t side);
 jenturik_told __real_jenturik_collect(ARRAYS, uint32_t *words);
 jenturik_last __real_jenturik_collect_many(ARRAYS, uint32_t *words, size_t n);
+jenturik_freed __real_jenturik_collect_freed(ARRAYS, uint32_t *words, size_t n, uint16_t *freed,
+                                             size_t freeds);
 jenturik_done __real_jenturik_schedule(ARRAYS, uint32_t *words, const uint32_t *steps,
                                        size_t numbers);
 
@@ -431,6 +433,42 @@ jenturik_last __wrap_jenturik_collect_many(ARRAYS, uint32_t *words, size_t n) {
     if (wrong(68)) a.changed &= 0xffff;          /* 16 bits */
     if (wrong(108) && a.done > 1 && words[JENTURIK_LAST] != 1 && had != 0) /* one by one alone */
         words[JENTURIK_FREE_COUNT] = had;
+    return a;
+}
+
+/* The list as it is told. */
+static void list_wrongly(uint16_t *freed, jenturik_freed *a, size_t freeds) {
+    if (wrong(170) && a->freed > 1) { /* the first two change places */
+        uint16_t first = freed[0];
+        freed[0] = freed[1], freed[1] = first;
+    }
+    if (wrong(171) && a->freed != 0) a->freed--;              /* the last is not told */
+    if (wrong(172) && a->freed < freeds) a->freed++;          /* one too many */
+    if (wrong(173) && a->freed < freeds) freed[a->freed] = 0; /* a mark behind the last */
+    if (wrong(174) && a->freed == freeds && freeds != 0) freed[freeds] = 0; /* behind the list */
+    if (wrong(175) && a->freed != 0) freed[a->freed - 1]++;                 /* the node after it */
+}
+
+jenturik_freed __wrap_jenturik_collect_freed(ARRAYS, uint32_t *words, size_t n, uint16_t *freed,
+                                             size_t freeds) {
+    jenturik_freed a = {0, 0, 0, 0, 0};
+    keep(colour, colours);
+    if (wrong(176) && (n == 0 || freeds == 0)) return a; /* nothing is judged */
+    if (wrong(177) && freeds == 0)                       /* no list: steps all the same */
+        return a.done = __real_jenturik_collect_many(TABLE, n).done, a;
+    if (wrong(178)) freeds &= 0xffff;       /* the length in 16 bits */
+    if (wrong(179) && freeds > 1) freeds--; /* full too soon */
+    if (wrong(180) && n > 1) n--;           /* one step too few */
+    a = __real_jenturik_collect_freed(TABLE, n, freed, freeds);
+    if (wrong(181) && a.freed == freeds && a.code == 0 && a.done < n) /* a step after it is full */
+        a.done += __real_jenturik_collect_many(TABLE, 1).done;
+    list_wrongly(freed, &a, freeds);
+    if (wrong(182)) a.detail = 0;                                    /* the detail is lost */
+    if (wrong(183) && a.done > 0) a.code = 0;                        /* a refusal is not told */
+    if (wrong(184) && a.code != 0) a.done++;                         /* the refused step counts */
+    if (wrong(185)) a.changed = recoloured(before, colour, colours); /* each colour once */
+    if (wrong(186)) a.changed += a.freed;                            /* a node appended counts */
+    if (wrong(187) && a.code != 0) a.freed = 0; /* the list is forgotten at a refusal */
     return a;
 }
 

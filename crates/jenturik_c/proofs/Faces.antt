@@ -1,7 +1,7 @@
 -- How a call over words is made of the call over the record.
 use Prim.Native.Nat.{ℕ, _<_}
 use mathlib.Core.Bool.{true, false}
-use mathlib.Core.List.{List}
+use mathlib.Core.List.{List, []}
 use mathlib.Core.Path.{_≡_, refl}
 use Rattle.base.proofs.Tests.{pick-yes, pick-no}
 use Rattle.rules.specs.Table.{State, Outcome, state, outcome}
@@ -9,12 +9,14 @@ use Rattle.rules.specs.Schedules.{Followed, followed}
 use Rattle.rules.specs.declared.Record.{Record}
 use Rattle.rules.specs.declared.Made.{Made}
 use Rattle.rules.specs.Steps.{codeOf, detailOf}
+use lib.ListN.{length}
 use Rattle.batch.specs.Last.{lastAnswer}
+use Rattle.freed.specs.Freed.{noted}
 use Rattle.batch.proofs.Small.{last-small}
 use Rattle.rules.specs.declared.Answer.{Answer}
 use Rattle.record_words.specs.Words.{wordsOf, recordOf, isRecord}
 use Rattle.jenturik_c.specs.Face.{Answered, toldOf, noRecord, shown, faced, face, faceCount}
-use Rattle.jenturik_c.specs.Many.{facedRun, faceRun, lastTold}
+use Rattle.jenturik_c.specs.Many.{facedRun, faceRun, lastTold, faceNodes}
 
 module _ (l r c w : List ℕ) where
   module _ (h : false ≡ isRecord w) where
@@ -34,6 +36,17 @@ module _ (l r c w : List ℕ) where
     pub spurned-last : (n : ℕ) → noRecord ≡ lastTold n l r c w
     unfolding lastTold
     spurned-last n = pick-no _ _ _ _ h refl
+
+    spurned-nodes : (f : State → List ℕ) → [] ≡ faceNodes f l r c w
+    unfolding faceNodes
+    spurned-nodes f = pick-no _ _ _ _ h refl
+
+    pub spurned-list : (f : State → List ℕ) (list : List ℕ)
+        → list ≡ noted (faceNodes f l r c w) list
+    spurned-list f list = rw (← spurned-nodes f) refl
+
+    pub spurned-freed : (f : State → List ℕ) → 0 ≡ length (faceNodes f l r c w)
+    spurned-freed f = rw (← spurned-nodes f) refl
 
   -- l′, r′ and c′ are the slices as the call over the record left them, w′ the words of the record
   -- that it handed back
@@ -60,6 +73,11 @@ module _ (l r c w : List ℕ) where
       → x ≡ recordOf w → a ≡ lastAnswer n (state l r c x) → t ≡ toldOf a → t ≡ lastTold n l r c w
   unfolding lastTold
   faces-last x n a t h e q k = pick-yes _ _ _ _ h (rw (← e, ← q, k))
+
+  pub faces-nodes : (x : Record) → true ≡ isRecord w → x ≡ recordOf w → (f : State → List ℕ)
+      → f (state l r c x) ≡ faceNodes f l r c w
+  unfolding faceNodes
+  faces-nodes x h e f = pick-yes _ _ _ _ h (rw e refl)
 
 -- the same where no record is read
 pub shows : (o : Outcome) (d : Made) (t : Answered) (l r c w : List ℕ) → outcome d l r c ≡ o → w

@@ -16,7 +16,7 @@ use Rattle.rules.specs.Records.{freshRecord}
 use Rattle.rules.specs.Fresh.{fresh}
 use Rattle.rules.specs.Load.{loadBy, load}
 use Rattle.rules.specs.Steps.{step, run, looking, codeOf}
-use Rattle.rules.specs.Schedules.{Followed, followed, schedule}
+use Rattle.rules.specs.Schedules.{Followed, followed, schedule, collects}
 use Rattle.rules.specs.declared.Step.{Step}
 use Rattle.rules.specs.declared.Place.{Place}
 use Rattle.rules.specs.declared.Made.{Made}
@@ -30,6 +30,8 @@ use Rattle.rules.specs.declared.Walk.the-variants.{At, Damaged}
 use Rattle.rules.proofs.Laws.{step-looking}
 use Rattle.rules.proofs.Refused.{refused-stays}
 use Rattle.schedule.proofs.PartOfRun.{schedule-run}
+use Rattle.freed.specs.Freed.{askedIn, runIn}
+use Rattle.freed.proofs.Laws.{steps-done}
 use Rattle.record_words.specs.Words.{wordsOf, recordOf, isRecord}
 use Rattle.record_words.proofs.RoundTrip.{words-back}
 use Rattle.jenturik_c.specs.Face.{Answered, answered, Faced, toldOf, shown, faced, face}
@@ -54,6 +56,12 @@ Follows f cs = (s : State) → f s .state ≡ run (take (f s .done) cs) s
 
 pub schedule-follows : (cs : List Step) → Follows (schedule cs) cs
 schedule-follows cs s = schedule-run cs s
+
+-- the steps that note the nodes that become free: the first of n collector steps
+pub freed-follows : (n : ℕ) (list : List ℕ) → Follows (runIn n list) (collects n)
+freed-follows n list s =
+    schedule-run (collects (askedIn n list s)) s
+    ∙ ap (λ (cs : List Step). run cs s) (steps-done n list s)
 
 -- a schedule of words: its whole steps, and none where words are left over
 pub words-follow : (v : List ℕ) → Follows (scheduleOf v) (stepsOf v)

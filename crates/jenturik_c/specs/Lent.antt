@@ -1,6 +1,7 @@
 -- Words for contracts: what a call for C is given, and what it tells and leaves.
 use Prim.Native.Nat.{ℕ}
 use mathlib.Core.Bool.{true}
+use mathlib.Core.List.{List}
 use mathlib.Core.Path.{_≡_}
 use Rattle.base.specs.Lent.{was, is}
 use Rattle.rules.specs.Lent.{Slice}
@@ -8,7 +9,7 @@ use Rattle.rules.specs.Table.{State, Outcome}
 use Rattle.rules.specs.Schedules.{Followed}
 use Rattle.record_words.specs.Words.{isRecord}
 use Rattle.jenturik_c.specs.Face.{Answered, answeredOf, Faced, faced, face, faceCount}
-use Rattle.jenturik_c.specs.Many.{FacedRun, facedRun, faceRun, lastTold}
+use Rattle.jenturik_c.specs.Many.{FacedRun, facedRun, faceRun, lastTold, faceNodes}
 use Rattle.jenturik_c.specs.declared.Told.{Told}
 
 -- what a call does not write: it is what it was
@@ -41,6 +42,11 @@ facingLast n left right colour words =
 abbrev pub facingCount : (State → ℕ) → Slice → Slice → Slice → Slice → ℕ
 facingCount f left right colour words =
     faceCount f (was left) (was right) (was colour) (was words)
+
+-- which nodes a call appends that appends these of a state
+abbrev pub facingNodes : (State → List ℕ) → Slice → Slice → Slice → Slice → List ℕ
+facingNodes f left right colour words =
+    faceNodes f (was left) (was right) (was colour) (was words)
 
 -- [C 9] words that were a record's are a record's
 abbrev pub Stays : Slice → Type 0

@@ -60,3 +60,7 @@ lastOf r = answered (r .what) (codeIn (r .code)) (detailIn (r .code)) (r .node)
 
 unfoldable pub lastTold : ℕ → List ℕ → List ℕ → List ℕ → List ℕ → Answered
 lastTold n l r c w = pick (isRecord w) (toldOf (lastAnswer n (state l r c (recordOf w)))) noRecord
+
+-- [C 14] the nodes that the run f appends: none where the words are no record's
+unfoldable pub faceNodes : (State → List ℕ) → List ℕ → List ℕ → List ℕ → List ℕ → List ℕ
+faceNodes f l r c w = pick (isRecord w) (f (state l r c (recordOf w))) []

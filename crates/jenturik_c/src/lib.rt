@@ -17,6 +17,7 @@ ghost use Rattle.rules.specs.FreeCount.{freeCount};
 ghost use Rattle.rules.specs.Steps.{step, taking, linking, shading, collecting, looking};
 ghost use Rattle.rules.specs.Schedules.{ran, schedule, collects};
 ghost use Rattle.rules.specs.Changes.{changes, changesAll};
+ghost use Rattle.freed.specs.Freed.{runIn, changesIn, appendedIn, noted};
 ghost use Rattle.record_words.specs.Words.{isRecord};
 ghost use Rattle.jenturik_c.specs.Face.{whatOf, answeredOf, toldOf, noRecord, shown, fitted};
 ghost use Rattle.jenturik_c.specs.Face.{asking};
@@ -25,9 +26,13 @@ ghost use Rattle.jenturik_c.specs.Flat.{STEP_WORDS, zeros, kindAt, ofKin
 ghost use Rattle.jenturik_c.specs.Flat.{scheduleOf, changesOf};
 ghost use Rattle.jenturik_c.specs.Many.{codeIn, detailIn, lastOf};
 ghost use Rattle.jenturik_c.specs.Lent.{kept, tells, facing, runs, facingRun};
-ghost use Rattle.jenturik_c.specs.Lent.{facingLast, facingCount, Stays};
+ghost use Rattle.jenturik_c.specs.Lent.{facingLast, facingCount, facingNodes, Stays};
+ghost use Rattle.jenturik_c.specs.Version.{VERSION};
 ghost use Rattle.base.specs.Lent.{was, is};
 ghost use Rattle.rules.specs.Lent.{given};
+
+// The library's version, as JENTURIK_VERSION_NUMBER of include/jenturik.h has it.
+const VERSION: u32 = 4007;
 
 // How many words a step of a schedule has, and the number of each, by the names of
 // include/jenturik.h. From UNUSED on they have no use.
@@ -87,6 +92,18 @@ pub struct Last {
     pub code: u8,
 }
 
+// What many steps of the collector answer that note the nodes that become free: how many were done,
+// how many colours they changed in all, how many nodes became free, the code that ended them, or 0,
+// and the detail.
+#[repr(C)]
+pub struct Freed {
+    pub done: usize,
+    pub changed: u32,
+    pub freed: u16,
+    pub code: u8,
+    pub detail: u8,
+}
+
 fn what(a: Answer) -> u8
     ensures { λ n. ⌜ n ≡ whatOf a ⌝ }
 {
@@ -140,6 +157,14 @@ fn no_record() -> Told
         node: 0,
         changed: 0,
     }
+}
+
+// The library's version.
+#[no_mangle]
+pub extern "C" fn jenturik_version() -> u32
+    ensures { λ n. ⌜ n ≡ VERSION ⌝ }
+{
+    VERSION
 }
 
 // A fresh table; the words are written whatever they were.
@@ -439,6 +464,50 @@ pub extern "C" fn jenturik_collect_many(
         node: answer.node(),
         what: what(answer),
         code: packed(answer.code(), answer.detail()),
+    }
+}
+
+// n steps of the collector, or as many as are done before one is refused or the list is full of the
+// nodes that become free.
+#[no_mangle]
+pub extern "C" fn jenturik_collect_freed(
+    left: &mut [u16],
+    right: &mut [u16],
+    colour: &mut [u8],
+    words: &mut [u32; record_words::WORDS],
+    n: usize,
+    list: &mut [u16],
+) -> Freed
+    ensures { λ r. ⌜ runs (r .done) (r .code) (r .detail) left right colour words
+        ≡ facingRun (runIn n (was list)) left right colour words ⌝ }
+    ensures { λ r. ⌜ Stays words ⌝ }
+    ensures { λ r. ⌜ r .changed
+        ≡ facingCount (λ s. fitted (changesIn n (was list) s)) left right colour words ⌝ }
+    ensures { λ r. ⌜ is list ≡ noted (facingNodes (appendedIn n (was list)) left right colour words)
+        (was list) ⌝ }
+    ensures { λ r. ⌜ r .freed
+        ≡ length (facingNodes (appendedIn n (was list)) left right colour words) ⌝ }
+{
+    let w = *words;
+    if !record_words::is_record(w) {
+        return Freed {
+            done: 0,
+            changed: 0,
+            freed: 0,
+            code: 2,
+            detail: 0,
+        };
+    }
+    let all = freed::collect_freed(left, right, colour, record_words::record_of(w), n, list);
+    let rec = all.rec;
+    let v = record_words::words_of(rec);
+    *words = v;
+    Freed {
+        done: all.done,
+        changed: fitted(all.changed),
+        freed: all.count,
+        code: all.code,
+        detail: all.detail,
     }
 }
 

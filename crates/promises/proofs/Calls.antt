@@ -5,11 +5,12 @@ use Rattle.rules.specs.Steps.{run}
 use Rattle.rules.specs.Schedules.{collects}
 use Rattle.rules.specs.declared.Record.{Record}
 use Rattle.schedule.proofs.PartOfRun.{schedule-run}
+use Rattle.jenturik_c.proofs.Kept.{freed-follows}
 use Rattle.runs.specs.Start.{by-fresh, by-load}
 use Rattle.promises.specs.CallRuns.{Lent, lend, stateOf, Demand-calls}
 use Rattle.promises.specs.Calls.{Call, Fresh, Load, Look, Link, Shade, Take, Collect, Any}
-use Rattle.promises.specs.Calls.{CollectInPlace, Schedule, CollectMany, InUse, FreeCount}
-use Rattle.promises.specs.Calls.{left-by, deedOf, rattle}
+use Rattle.promises.specs.Calls.{CollectInPlace, Schedule, CollectMany, CollectFreed, InUse}
+use Rattle.promises.specs.Calls.{FreeCount, left-by, deedOf, rattle}
 use Rattle.promises.proofs.CallRuns as R
 
 -- any record will do
@@ -31,6 +32,7 @@ goes (Schedule cs) h = λ u. ap (lend (λ x. x)) (schedule-run cs (stateOf rattl
 goes InUse h = λ u. refl
 goes FreeCount h = λ u. refl
 goes (CollectMany n) h = λ u. ap (lend (λ x. x)) (schedule-run (collects n) (stateOf rattle h))
+goes (CollectFreed n list) h = λ u. ap (lend (λ x. x)) (freed-follows n list (stateOf rattle h))
 
 pub rattle-calls : Demand-calls rattle
 rattle-calls =

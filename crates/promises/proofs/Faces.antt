@@ -6,6 +6,7 @@ use Prim.Native.Nat.{ℕ}
 use denote.Ref.{now}
 use Rattle.jenturik_c.specs.Face.{answeredOf, Faced, faced, placeOf}
 use Rattle.jenturik_c.specs.Many.{facedRun, codeIn, detailIn, lastOf}
+use Rattle.jenturik_c.proofs.jenturik_version.Reads as c-version
 use Rattle.jenturik_c.proofs.jenturik_fresh.Reads as c-fresh
 use Rattle.jenturik_c.proofs.jenturik_load.Reads as c-load
 use Rattle.jenturik_c.proofs.jenturik_look.Reads as c-look
@@ -16,14 +17,20 @@ use Rattle.jenturik_c.proofs.jenturik_shade.Reads as c-shade
 use Rattle.jenturik_c.proofs.jenturik_take.Reads as c-take
 use Rattle.jenturik_c.proofs.jenturik_collect.Reads as c-collect
 use Rattle.jenturik_c.proofs.jenturik_collect_many.Reads as c-many
+use Rattle.jenturik_c.proofs.jenturik_collect_freed.Reads as c-freed
 use Rattle.jenturik_c.proofs.jenturik_schedule.Reads as c-schedule
 use Rattle.bench_steps.specs.Steps.{stepped}
 use Rattle.bench_steps.proofs.jenturik_steps.Reads as c-steps
 use Rattle.promises.specs.CallRuns.{lent}
 use Rattle.promises.specs.Words.{Fresh, Load, Look, InUse, FreeCount, Link, Shade, Take}
-use Rattle.promises.specs.Words.{Collect, CollectMany, Schedule, left-in, left-in-run}
-use Rattle.promises.specs.Words.{left-by, words}
+use Rattle.promises.specs.Words.{Collect, CollectMany, CollectFreed, Schedule, left-in}
+use Rattle.promises.specs.Words.{left-in-run, left-by, words}
 use Rattle.promises.proofs.Determined.{determined}
+
+-- the version is lent nothing
+pub c-version-determined : (κs : _) (a : _) (r r′ : _) (s s′ : _)
+    → c-version.Learnt κs a r s → c-version.Learnt κs a r′ s′ → r ≡ r′
+c-version-determined κs a r r′ s s′ = determined
 
 pub c-fresh-determined : (κs : _) (a : _) (r r′ : _) (s s′ : _)
     → c-fresh.Learnt κs a r s → c-fresh.Learnt κs a r′ s′
@@ -110,6 +117,21 @@ c-many-determined κs a r r′ s s′ p q = (
   determined (p .0) (q .0),
   determined (p .1 .0) (q .1 .0),
   determined (p .1 .1 .1) (q .1 .1 .1),
+)
+
+pub c-freed-determined : (κs : _) (a : _) (r r′ : _) (s s′ : _)
+    → c-freed.Learnt κs a r s → c-freed.Learnt κs a r′ s′
+    → (facedRun (r .done) (r .code) (r .detail)
+    (now (s .0)) (now (s .1 .0)) (now (s .1 .1 .0)) (now (s .1 .1 .1 .0))
+    ≡ facedRun (r′ .done) (r′ .code) (r′ .detail)
+    (now (s′ .0)) (now (s′ .1 .0)) (now (s′ .1 .1 .0)) (now (s′ .1 .1 .1 .0)))
+    × (r .changed ≡ r′ .changed) × (now (s .1 .1 .1 .1 .1 .0) ≡ now (s′ .1 .1 .1 .1 .1 .0))
+    × (r .freed ≡ r′ .freed)
+c-freed-determined κs a r r′ s s′ p q = (
+  determined (p .0) (q .0),
+  determined (p .1 .1 .0) (q .1 .1 .0),
+  determined (p .1 .1 .1 .0) (q .1 .1 .1 .0),
+  determined (p .1 .1 .1 .1) (q .1 .1 .1 .1),
 )
 
 pub c-schedule-determined : (κs : _) (a : _) (r r′ : _) (s s′ : _)
@@ -209,6 +231,13 @@ pub c-many-leaves : (κs : _) (a : _) (r : _) (s : _) → c-many.Learnt κs a r 
     (lent (now (a .0)) (now (a .1 .0)) (now (a .1 .1 .0)) (now (a .1 .1 .1 .0)))
 unfolding left-by
 c-many-leaves κs a r s p = ap left-in-run (p .0)
+
+pub c-freed-leaves : (κs : _) (a : _) (r : _) (s : _) → c-freed.Learnt κs a r s
+    → lent (now (s .0)) (now (s .1 .0)) (now (s .1 .1 .0)) (now (s .1 .1 .1 .0))
+    ≡ words .leaves (CollectFreed (a .1 .1 .1 .1 .0) (now (a .1 .1 .1 .1 .1 .0)))
+    (lent (now (a .0)) (now (a .1 .0)) (now (a .1 .1 .0)) (now (a .1 .1 .1 .0)))
+unfolding left-by
+c-freed-leaves κs a r s p = ap left-in-run (p .0)
 
 pub c-schedule-leaves : (κs : _) (a : _) (r : _) (s : _) → c-schedule.Learnt κs a r s
     → lent (now (s .0)) (now (s .1 .0)) (now (s .1 .1 .0)) (now (s .1 .1 .1 .0))

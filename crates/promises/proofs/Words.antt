@@ -23,12 +23,14 @@ use Rattle.rules.specs.declared.Owed.the-variants.{Nothing, Node}
 use Rattle.rules.proofs.Checked.{good, inside, owable}
 use Rattle.rules.proofs.Phases.{tag-most}
 use Rattle.rules.proofs.Sizes.{square}
+use Rattle.freed.specs.Freed.{runIn}
 use Rattle.record_words.specs.Words.{owedOf, wordsOf, isRecord}
 use Rattle.record_words.proofs.RoundTrip.{record-back}
 use Rattle.record_words.proofs.Widths.{words-are, owes-most}
 use Rattle.jenturik_c.specs.Face.{face}
 use Rattle.jenturik_c.specs.Flat.{stepsOf, scheduleOf}
-use Rattle.jenturik_c.proofs.Kept.{Follows, schedule-follows, words-follow, done-kept}
+use Rattle.jenturik_c.proofs.Kept.{Follows, schedule-follows, freed-follows, words-follow}
+use Rattle.jenturik_c.proofs.Kept.{done-kept}
 use Rattle.runs.specs.Runs.{Count}
 use Rattle.runs.specs.Start.{by-fresh, by-load}
 use Rattle.runs.proofs.Sound.{checked}
@@ -36,7 +38,7 @@ use Rattle.runs.proofs.Counting.{Carried}
 use Rattle.promises.specs.CallRuns.{Lent, lend, stateOf, Demand-calls}
 use Rattle.promises.specs.Words.{left-in, left-in-run, once, asked, many, left-by, deedOf}
 use Rattle.promises.specs.Words.{words, Call, Fresh, Load, Look, InUse, FreeCount, Link}
-use Rattle.promises.specs.Words.{Shade, Take, Collect, CollectMany, Schedule}
+use Rattle.promises.specs.Words.{Shade, Take, Collect, CollectMany, CollectFreed, Schedule}
 use Rattle.promises.proofs.CallRuns as R
 
 -- numbers inside a table have their widths
@@ -106,6 +108,8 @@ goes (Take p side) h = λ u. once-run h u (taking p side)
 goes Collect h = λ u. once-run h u collecting
 goes (CollectMany n) h =
     λ u. many-run h u (schedule (collects n)) (collects n) (schedule-follows (collects n))
+goes (CollectFreed n list) h =
+    λ u. many-run h u (runIn n list) (collects n) (freed-follows n list)
 goes (Schedule v) h = λ u. many-run h u (scheduleOf v) (stepsOf v) (words-follow v)
 
 pub words-calls : Demand-calls words

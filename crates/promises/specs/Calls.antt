@@ -7,6 +7,7 @@ use Rattle.rules.specs.Fresh.{fresh}
 use Rattle.rules.specs.Load.{load}
 use Rattle.rules.specs.Steps.{step, taking, linking, shading, collecting, looking, codeOf}
 use Rattle.rules.specs.Schedules.{schedule, collects}
+use Rattle.freed.specs.Freed.{runIn}
 use Rattle.rules.specs.declared.Record.{Record}
 use Rattle.rules.specs.declared.Place.{Place}
 use Rattle.rules.specs.declared.Step.{Step}
@@ -33,6 +34,8 @@ pub data Call : Type 0 where
   Schedule : List Step → Call
   -- batch::collect_many
   CollectMany : ℕ → Call
+  -- freed::collect_freed, given n and the list
+  CollectFreed : ℕ → List ℕ → Call
   -- in_use::in_use
   InUse : Call
   -- free_count::free_count
@@ -52,6 +55,7 @@ left-by (Any a) s = step a s .state
 left-by CollectInPlace s = step collecting s .state
 left-by (Schedule cs) s = schedule cs s .state
 left-by (CollectMany n) s = schedule (collects n) s .state
+left-by (CollectFreed n list) s = runIn n list s .state
 left-by InUse s = s
 left-by FreeCount s = s
 
@@ -69,6 +73,7 @@ deedOf (Any a) s = makes (a ∷ [])
 deedOf CollectInPlace s = makes (collecting ∷ [])
 deedOf (Schedule cs) s = makes (take (schedule cs s .done) cs)
 deedOf (CollectMany n) s = makes (take (schedule (collects n) s .done) (collects n))
+deedOf (CollectFreed n list) s = makes (take (runIn n list s .done) (collects n))
 deedOf InUse s = makes []
 deedOf FreeCount s = makes []
 

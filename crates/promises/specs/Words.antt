@@ -12,6 +12,7 @@ use Rattle.rules.specs.Schedules.{Followed, schedule, collects}
 use Rattle.rules.specs.declared.Place.{Place}
 use Rattle.rules.specs.declared.Step.{Step}
 use Rattle.rules.specs.declared.Answer.{Answer}
+use Rattle.freed.specs.Freed.{runIn}
 use Rattle.record_words.specs.Words.{recordOf}
 use Rattle.jenturik_c.specs.Face.{Faced, face, shown, asking}
 use Rattle.jenturik_c.specs.Flat.{stepsOf, scheduleOf}
@@ -19,7 +20,7 @@ use Rattle.jenturik_c.specs.Many.{FacedRun, faceRun}
 use Rattle.promises.specs.CallRuns.{Lent, lent, Deed, starts, makes, Face}
 
 -- jenturik_fresh, jenturik_look, .., given what C gives; a schedule as words. Load is given M, R
--- and the lists of left and right edges.
+-- and the lists of left and right edges; the steps that note the nodes that become free, the list.
 pub data Call : Type 0 where
   Fresh : ℕ → ℕ → Call
   Load : ℕ → ℕ → List ℕ → List ℕ → Call
@@ -31,6 +32,7 @@ pub data Call : Type 0 where
   Take : Place → ℕ → Call
   Collect : Call
   CollectMany : ℕ → Call
+  CollectFreed : ℕ → List ℕ → Call
   Schedule : List ℕ → Call
 
 -- the slices and the words that a call leaves
@@ -63,6 +65,7 @@ left-by Shade h = once shading h
 left-by (Take p side) h = once (taking p side) h
 left-by Collect h = once collecting h
 left-by (CollectMany n) h = many (schedule (collects n)) h
+left-by (CollectFreed n list) h = many (runIn n list) h
 left-by (Schedule v) h = many (scheduleOf v) h
 
 -- the steps that a call makes: of many, as many as were done. Words that are no record's make none;
@@ -79,6 +82,7 @@ deedOf Shade s = makes (shading ∷ [])
 deedOf (Take p side) s = makes (taking p side ∷ [])
 deedOf Collect s = makes (collecting ∷ [])
 deedOf (CollectMany n) s = makes (take (schedule (collects n) s .done) (collects n))
+deedOf (CollectFreed n list) s = makes (take (runIn n list s .done) (collects n))
 deedOf (Schedule v) s = makes (take (scheduleOf v s .done) (stepsOf v))
 
 abbrev pub words : Face Call (List ℕ)

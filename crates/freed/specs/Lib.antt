@@ -1,0 +1,2 @@
+pub mod Freed
+pub mod Gathers
