@@ -24,14 +24,6 @@ static inline uint32_t nodes_of(uint32_t *order, uint32_t from, uint32_t to, int
     return n;
 }
 
-/* What is measured: the library, and plain C by gcc and, where it is compiled in, by clang. */
-enum { LIBRARY, GCC, CLANG_C, VARIANTS };
-#ifdef CLANG
-static const int variants = VARIANTS;
-#else
-static const int variants = CLANG_C;
-#endif
-
 /* Nanoseconds. */
 static inline double now(void) {
     struct timespec t;

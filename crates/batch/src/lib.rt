@@ -107,7 +107,7 @@ fn in_limits(x: Record, b: u32) -> bool
 }
 
 // n steps, from a record that passes.
-fn all_steps(
+pub fn all_steps(
     left: &mut [u16],
     right: &mut [u16],
     colour: &mut [u8],

@@ -11,32 +11,23 @@ ghost use mathlib.Core.List.{List};
 ghost use Prim.Native.Nat.{ℕ, _<_};
 ghost use lib.ListN.{length};
 ghost use Rattle.rules.specs.Table.{table, state, handed, outcome};
+ghost use Rattle.rules.specs.Check.{check};
 ghost use Rattle.rules.specs.Editor.{look, linkTo, depart, pay};
 ghost use Rattle.rules.specs.Steps.{step, looking, linking, shading};
 ghost use Rattle.rules.specs.Changes.{differing, changes};
 ghost use Rattle.rules.specs.Facts.{Checked, Owable};
 ghost use Rattle.rules.specs.declared.Record.{Record};
-ghost use Rattle.editor.specs.Codes.{lookCode};
 ghost use Rattle.base.specs.Lent.{was, is};
 ghost use Rattle.rules.specs.Lent.{given};
 
-fn look_code(lefts: usize, rights: usize, colours: usize, x: Record, p: Place) -> u8
-    ensures { λ c. ⌜ c ≡ lookCode lefts rights colours x p ⌝ }
-{
-    let checked = rules::check(lefts, rights, colours, x);
-    if checked != 0 {
-        return checked;
-    }
-    places::place_code(x.r, p)
-}
-
-// Names the node at a place.
-pub fn look(left: &[u16], right: &[u16], colour: &[u8], x: Record, p: Place) -> Made
+// Look, where neither code 1 nor 2 is given.
+pub fn look_passed(left: &[u16], right: &[u16], colour: &[u8], x: Record, p: Place) -> Made
+    requires { ⌜ 0 ≡ check (state (now left) (now right) (now colour) x) ⌝ }
     ensures { λ r. ⌜ outcome r (was left) (was right) (was colour)
         ≡ step (looking p) (given left right colour x) ⌝ }
     ensures { λ r. ⌜ r .changed ≡ changes (looking p) (given left right colour x) ⌝ }
 {
-    let code = look_code(left.len(), right.len(), colour.len(), x, p);
+    let code = places::place_code(x.r, p);
     if code != 0 {
         return rules::refusal(code, 0, x);
     }
@@ -49,6 +40,19 @@ pub fn look(left: &[u16], right: &[u16], colour: &[u8], x: Record, p: Place) -> 
         },
         Walk::Damaged(n, turn) => rules::refusal_with(7, n, turn, x),
     }
+}
+
+// Names the node at a place.
+pub fn look(left: &[u16], right: &[u16], colour: &[u8], x: Record, p: Place) -> Made
+    ensures { λ r. ⌜ outcome r (was left) (was right) (was colour)
+        ≡ step (looking p) (given left right colour x) ⌝ }
+    ensures { λ r. ⌜ r .changed ≡ changes (looking p) (given left right colour x) ⌝ }
+{
+    let code = rules::check(left.len(), right.len(), colour.len(), x);
+    if code != 0 {
+        return rules::refusal(code, 0, x);
+    }
+    look_passed(left, right, colour, x, p)
 }
 
 // Link, from its source n: the target is walked, the edge moves, the shade is owed.
@@ -93,6 +97,29 @@ fn link_from(left: &mut [u16], right: &mut [u16], x: Record, p: Place, side: u32
     }
 }
 
+// Link, where neither code 1 nor 2 is given.
+pub fn link_passed(
+    left: &mut [u16],
+    right: &mut [u16],
+    colour: &[u8],
+    x: Record,
+    p: Place,
+    side: u32,
+    q: Place,
+) -> Made
+    requires { ⌜ 0 ≡ check (state (now left) (now right) (now colour) x) ⌝ }
+    ensures { λ r. ⌜ outcome r (is left) (is right) (was colour)
+        ≡ step (linking p side q) (given left right colour x) ⌝ }
+    ensures { λ r. ⌜ r .changed ≡ changes (linking p side q) (given left right colour x) ⌝ }
+{
+    let target = places::place_code(x.r, q);
+    let code = places::edit_code(x, p, side, target);
+    if code != 0 {
+        return rules::refusal(code, 0, x);
+    }
+    link_from(left, right, x, p, side, q)
+}
+
 // The edge of the source on a side now points to the target, whose shade is owed.
 pub fn link(
     left: &mut [u16],
@@ -107,12 +134,11 @@ pub fn link(
         ≡ step (linking p side q) (given left right colour x) ⌝ }
     ensures { λ r. ⌜ r .changed ≡ changes (linking p side q) (given left right colour x) ⌝ }
 {
-    let target = places::place_code(x.r, q);
-    let code = places::edit_code(left.len(), right.len(), colour.len(), x, p, side, target);
+    let code = rules::check(left.len(), right.len(), colour.len(), x);
     if code != 0 {
         return rules::refusal(code, 0, x);
     }
-    link_from(left, right, x, p, side, q)
+    link_passed(left, right, colour, x, p, side, q)
 }
 
 // Shades the node owed; refused 6 where nothing is.
@@ -139,6 +165,17 @@ fn pay(colour: &mut [u8], x: Record, owed: Owed) -> Made
     }
 }
 
+// Shade, where neither code 1 nor 2 is given.
+pub fn shade_passed(left: &[u16], right: &[u16], colour: &mut [u8], x: Record) -> Made
+    requires { ⌜ 0 ≡ check (state (now left) (now right) (now colour) x) ⌝ }
+    ensures { λ r. ⌜ outcome r (was left) (was right) (is colour)
+        ≡ step shading (given left right colour x) ⌝ }
+    ensures { λ r. ⌜ r .changed ≡ changes shading (given left right colour x) ⌝ }
+{
+    let owed = x.owed;
+    pay(colour, x, owed)
+}
+
 // Shades the node owed, and nothing is owed afterwards.
 pub fn shade(left: &[u16], right: &[u16], colour: &mut [u8], x: Record) -> Made
     ensures { λ r. ⌜ outcome r (was left) (was right) (is colour)
@@ -149,6 +186,5 @@ pub fn shade(left: &[u16], right: &[u16], colour: &mut [u8], x: Record) -> Made
     if code != 0 {
         return rules::refusal(code, 0, x);
     }
-    let owed = x.owed;
-    pay(colour, x, owed)
+    shade_passed(left, right, colour, x)
 }

@@ -4,18 +4,22 @@ use mathlib.Core.Path.{_≡_, refl}
 use mathlib.Core.List.{List}
 use lib.ListN.{length, getD, set}
 use native.Mathlib.Omega.{arith}
+use Rattle.base.proofs.Tests.{each, facts}
 use Rattle.rules.specs.declared.Record.{Record}
 use Rattle.rules.specs.declared.Phase.the-variants.{Roots, Append}
-use Rattle.rules.specs.Table.{State, state, shadeIn}
+use Rattle.rules.specs.Table.{State, state, shadeIn, mostNodes}
 use Rattle.rules.specs.Facts.{manySteps}
+use Rattle.rules.specs.Phases.{position}
+use Rattle.rules.specs.Check.{freeOk, bound}
 use Rattle.rules.specs.Changes.{differing}
 use Rattle.rules.proofs.Changes.{shaded-most}
 use Rattle.rules.proofs.Checked.{good, inside}
 use Rattle.ahead.specs.Leads.{Passes, Room, Leads}
-use Rattle.ahead.proofs.Strides.{Sized, sized, stay, then, on, few}
+use Rattle.ahead.proofs.Strides.{Sized, sized, stay, then, fewer, free-fits}
 use Rattle.ahead.proofs.Sweeps as strides
 use Rattle.in_order.specs.declared.AppendAt.{AppendAt}
-use Rattle.in_order.specs.Sweeping.{rooted, Shades, swept, AppendLeads}
+use Rattle.in_order.specs.Sweeping.{rooted, Shades, swept, CanAppend, AppendLeads}
+use Rattle.in_order.specs.Sweeping.{Whitens}
 
 rooted-none : (x : Record) (i : ℕ) → x .phase ≡ Roots i → rooted x i 0 ≡ x
 unfolding rooted
@@ -61,47 +65,69 @@ at-roots l k c x i p h =
     let f = rw h at (inside _ _ x (p .code)) in
     record { root = f .0; room = g .room; sizes = sized l k c x p }
 
+-- what a record that passes tells at Append i
+pub record AtAppend (x : Record) (i : ℕ) : Type 0 where
+  pub below : i < x .m
+  pub free : x .free ≤ x .m
+  pub high : x .m ≤ mostNodes
+
+pub at-append : (l k c : List ℕ) (x : Record) (i : ℕ) → Passes (state l k c x)
+    → x .phase ≡ Append i → AtAppend x i
+at-append l k c x i p h =
+    let g = good _ _ _ x (p .code) in
+    let f = rw h at (inside _ _ x (p .code)) in
+    record { below = f .0; free = g .free; high = g .m-high }
+
 -- what a position whose record passes tells
 pub record At (ll rl cl : ℕ) (x : Record) (s : AppendAt) : Type 0 where
   pub i : s .i < x .m
   pub last : s .last < x .m
-  pub free : x .free + (s .d - s .changed) ≤ x .m
-  pub steps : x .steps + s .d < manySteps
+  pub free : s .free + (x .r + 2) ≤ x .m
+  pub steps : x .steps + (s .i - position (x .phase)) < manySteps
   pub sizes : Sized (x .m) ll rl cl
 
 pub at : (l k c : List ℕ) (x : Record) (s : AppendAt) → Passes (state l k c (swept x s))
     → At (length l) (length k) (length c) x s
-unfolding swept
+unfolding swept freeOk
 at l k c x s p =
     let g = good _ _ _ (swept x s) (p .code) in
     let h = inside _ _ (swept x s) (p .code) in
+    let f = each _ (free-fits p) in
     record {
       i = h .0;
       last = g .last-high;
-      free = g .free;
+      free = omega (facts, g .room);
       steps = g .steps;
       sizes = sized l k c (swept x s) p;
     }
 
 -- the position that stands for x
 abbrev pub begun : Record → ℕ → AppendAt
-begun x i = record { i = i; last = x .last; d = 0; changed = 0 }
+begun x i = record { i = i; last = x .last; free = x .free }
 
 start : (x : Record) (i : ℕ) → x .phase ≡ Append i → swept x (begun x i) ≡ x
 unfolding swept
 start x i h =
-    let s : x .steps + 0 ≡ x .steps = omega arith in
-    let f : x .free + 0 ≡ x .free = omega arith in rw (s, f, ← h)
+    let s : x .steps + (i - position (Append i)) ≡ x .steps = omega arith in rw (h, s, ← h)
 
-pub begins : (l k c : List ℕ) (x : Record) (i : ℕ) → x .phase ≡ Append i → Passes (state l k c x)
-    → Passes (state l k c (swept x (begun x i)))
-begins l k c x i h p = rw (start x i h) p
+pub begins : (l k c : List ℕ) (x : Record) (i cap end : ℕ) → x .phase ≡ Append i
+    → Passes (state l k c x) → Room x cap → i ≤ end → end - i ≤ cap → end < x .m
+    → CanAppend l k c x end (begun x i)
+begins l k c x i cap end h p b a e q =
+    let z : position (x .phase) ≡ i = rw h in
+    record {
+      passes = rw (start x i h) p;
+      begun = omega arith;
+      low = a;
+      high = q;
+      room = fewer _ _ _ (omega arith) b;
+    }
 
-pub ends : (l k c : List ℕ) (t : State) (x : Record) (i d v : ℕ) → x .phase ≡ Append i
-    → Leads (state l k c (swept x (begun x i))) (d - 0) (v - 0) t → Leads (state l k c x) d v t
-ends l k c t x i d v h w =
-    let z : d - 0 ≡ d = omega arith in
-    let y : v - 0 ≡ v = omega arith in rw (z, y, start x i h) at w
+pub ends : (l k c : List ℕ) (x : Record) (i : ℕ) (l′ k′ c′ : List ℕ) (r : AppendAt)
+    → x .phase ≡ Append i → AppendLeads l k c x (begun x i) l′ k′ c′ r
+    → Leads (state l k c x) (r .i - i) (r .i + x .free - (i + r .free))
+    (state l′ k′ c′ (swept x r))
+ends l k c x i l′ k′ c′ r h w = rw (start x i h) at (w .leads)
 
 -- steps and the steps after them
 pub goes-on : (l k c : List ℕ) (x : Record) (s : AppendAt) (l′ k′ c′ : List ℕ) (t : AppendAt)
@@ -110,62 +136,101 @@ pub goes-on : (l k c : List ℕ) (x : Record) (s : AppendAt) (l′ k′ c′ : L
 goes-on l k c x s l′ k′ c′ t l″ k″ c″ r p q =
     let a = p .low in
     let b = q .low in
-    let v = p .counted in
-    let w = q .counted in
+    let f = p .few in
+    let g = q .few in
     record {
       low = omega arith;
-      counted = omega arith;
-      leads = on _ _ _ _ _ _ _ _ _ a b v w (p .leads) (q .leads);
+      few = omega arith;
+      leads = then _ _ _ _ _ _ _ _ _ (omega arith) (omega arith) (p .leads) (q .leads);
     }
 
--- no more colours are changed than steps made
-pub told : (l k c : List ℕ) (x : Record) (s : AppendAt) (l′ k′ c′ : List ℕ) (r : AppendAt)
-    → AppendLeads l k c x s l′ k′ c′ r → s .changed ≤ s .d → r .changed ≤ r .d
-told l k c x s l′ k′ c′ r p h =
-    let a = p .low in let b = p .counted in let f = few _ _ _ _ (p .leads) in omega arith
+-- and where they lead, more may be made
+pub can : (l k c : List ℕ) (x : Record) (s : AppendAt) (end : ℕ) (l′ k′ c′ : List ℕ) (r : AppendAt)
+    → CanAppend l k c x end s → r .i ≤ end → AppendLeads l k c x s l′ k′ c′ r
+    → CanAppend l′ k′ c′ x end r
+can l k c x s end l′ k′ c′ r p h q =
+    let a = q .low in
+    let b = p .begun in
+    record {
+      passes = q .leads .passes;
+      begun = omega arith;
+      low = h;
+      high = p .high;
+      room = p .room;
+    }
 
-module _ (l k c : List ℕ) (x : Record) (s : AppendAt) (p : Passes (state l k c (swept x s))) where
-  -- no step
-  pub stays : AppendLeads l k c x s l k c s
-  stays = record {
-    low = omega arith;
-    counted = omega arith;
-    leads = stay _ _ _ (omega arith) (omega arith) p;
-  }
+-- the same up to an earlier end
+pub nearer : (l k c : List ℕ) (x : Record) (s : AppendAt) (end e : ℕ)
+    → CanAppend l k c x end s → s .i ≤ e → e ≤ end → CanAppend l k c x e s
+nearer l k c x s end e p h q =
+    let a = p .high in
+    record {
+      passes = p .passes;
+      begun = p .begun;
+      low = h;
+      high = omega arith;
+      room = fewer _ _ _ (omega arith) (p .room);
+    }
 
-  module _ (r : AppendAt) (b : Room x (s .d + 1)) (q : s .i + 1 < x .m) (i : r .i ≡ s .i + 1)
-      (d : r .d ≡ s .d + 1) where
-    pub whitens : r .last ≡ s .last → r .changed ≡ s .changed + 1 → getD c (s .i) 0 ≡ 2
-        → AppendLeads l k c x s l k (set c (s .i) 0) r
-    unfolding swept
-    whitens e u v =
-        let z = b .steps in
-        let n : r .d - s .d ≡ 1 = omega arith in
-        let o : r .changed - s .changed ≡ 1 = omega arith in
-        let t : x .steps + (s .d + 1) ≡ x .steps + s .d + 1 = omega arith in
-        let w : s .d + 1 - (s .changed + 1) ≡ s .d - s .changed = omega arith in
-        record {
-          low = omega arith;
-          counted = omega arith;
-          leads = rw (n, o, i, e, d, u, w, t) (strides.whitens l k c (swept x s) (s .i) p (omega arith)
-              refl q v);
-        }
+-- no step
+pub stays : (l k c : List ℕ) (x : Record) (s : AppendAt) → Passes (state l k c (swept x s))
+    → AppendLeads l k c x s l k c s
+stays l k c x s p =
+    record {
+      low = omega arith;
+      few = omega arith;
+      leads = stay _ _ _ (omega arith) (omega arith) p;
+    }
 
-    pub appends : r .last ≡ s .i → r .changed ≡ s .changed → s .changed ≤ s .d
-        → getD c (s .i) 0 ≡ 0 → x .r + 1 < s .i → (s .i ≡ s .last → ⊥)
-        → x .free + (s .d - s .changed) < x .m - (x .r + 2)
-        → AppendLeads l k c x s (set (set l (s .i) 0) (s .last) (s .i)) (set k (s .i) 0) c r
-    unfolding swept
-    appends e u a v f g h =
-        let z = b .steps in
-        let n : r .d - s .d ≡ 1 = omega arith in
-        let o : r .changed - s .changed ≡ 0 = omega arith in
-        let t : x .steps + (s .d + 1) ≡ x .steps + s .d + 1 = omega arith in
-        let w : x .free + (s .d + 1 - s .changed) ≡ x .free + (s .d - s .changed) + 1 = omega arith
-        in
-        record {
-          low = omega arith;
-          counted = omega arith;
-          leads = rw (n, o, i, e, d, u, w, t) (strides.appends l k c (swept x s) (s .i) p (omega arith)
-              refl q v f g h);
-        }
+module _ (l k c : List ℕ) (x : Record) (end : ℕ) (s : AppendAt) (p : CanAppend l k c x end s)
+    (r : AppendAt) (q : s .i < end) (i : r .i ≡ s .i + 1) where
+  -- one step more
+  counts : x .steps + (s .i + 1 - position (x .phase)) ≡ x .steps + (s .i - position (x .phase)) + 1
+  counts = let a = p .begun in omega arith
+
+  below : x .steps + (s .i - position (x .phase)) + 1 < bound 2 (x .m) (x .r)
+  below = let z = p .room .steps in let a = p .begun in omega arith
+
+  inner : s .i + 1 < x .m
+  inner = let y = p .high in omega arith
+
+  pub whitens : r .last ≡ s .last → r .free ≡ s .free → getD c (s .i) 0 ≡ 2
+      → AppendLeads l k c x s l k (set c (s .i) 0) r
+  unfolding swept
+  whitens e u v =
+      let n : s .i + 1 - s .i ≡ 1 = omega arith in
+      let o : s .i + 1 + s .free - (s .i + s .free) ≡ 1 = omega arith in
+      record {
+        low = omega arith;
+        few = omega arith;
+        leads = rw (i, e, u, n, o, counts) (strides.whitens l k c (swept x s) (s .i) (p .passes)
+            below refl inner v);
+      }
+
+  pub appends : r .last ≡ s .i → r .free ≡ s .free + 1 → getD c (s .i) 0 ≡ 0 → x .r + 1 < s .i
+      → (s .i ≡ s .last → ⊥) → s .free + (x .r + 2) < x .m
+      → AppendLeads l k c x s (set (set l (s .i) 0) (s .last) (s .i)) (set k (s .i) 0) c r
+  unfolding swept
+  appends e u v f g h =
+      let n : s .i + 1 - s .i ≡ 1 = omega arith in
+      let o : s .i + 1 + s .free - (s .i + (s .free + 1)) ≡ 0 = omega arith in
+      record {
+        low = omega arith;
+        few = omega arith;
+        leads = rw (i, e, u, n, o, counts) (strides.appends l k c (swept x s) (s .i) (p .passes)
+            below refl inner v f g (omega arith));
+      }
+
+pub whitens-none : (c : List ℕ) (end : ℕ) (s : AppendAt) → Whitens c end s c s
+whitens-none c end s = record { leads = λ l k x p. stays l k c x s (p .passes) }
+
+pub whitens-more : (c c′ : List ℕ) (end : ℕ) (s t r : AppendAt) → Whitens c end s c′ t
+    → t .i < end → r .i ≡ t .i + 1 → r .last ≡ t .last → r .free ≡ t .free
+    → getD c′ (t .i) 0 ≡ 2 → Whitens c end s (set c′ (t .i) 0) r
+whitens-more c c′ end s t r w q i e u v =
+    record {
+      leads = λ l k x p.
+          let a = w .leads l k x p in
+          let b = can l k c x s end l k c′ t p (omega arith) a in
+          goes-on _ _ _ _ _ _ _ _ _ _ _ _ _ a (whitens l k c′ x end t b r q i e u v);
+    }

@@ -4,22 +4,23 @@ use rules::Phase;
 use rules::Record;
 ghost use mathlib.Core.Path.{_≡_};
 ghost use Prim.Native.Nat.{_+_, _-_, _<_, _≤_};
-ghost use lib.ListN.{length, getD};
+ghost use lib.ListN.{length};
 ghost use Rattle.rules.specs.Table.{mostNodes, state};
 ghost use Rattle.rules.specs.Facts.{manySteps};
+ghost use Rattle.rules.specs.Phases.{position};
 ghost use Rattle.rules.specs.declared.Phase.the-variants.{Roots, Append};
 ghost use Rattle.ahead.specs.Leads.{Passes, Room, Leads};
-ghost use Rattle.in_order.specs.Sweeping.{rooted, Shades, swept, AppendLeads};
+ghost use Rattle.in_order.specs.Sweeping.{rooted, Shades, swept, CanAppend};
+ghost use Rattle.in_order.specs.Sweeping.{AppendLeads, Whitens};
 ghost use Rattle.base.specs.Lent.{was, is};
 ghost use Rattle.rules.specs.Lent.{given};
 
-// Where the appending stands: Append i, the end of the free list, the steps made here, and how many
-// colours they changed. The other steps appended a node each, so that number is not kept.
+// Where the appending stands: Append i, the end of the free list, and how many nodes are free. Each
+// step moves i by one, and appends a node or changes a colour, so neither number is kept.
 struct AppendAt {
     i: usize,
     last: usize,
-    d: usize,
-    changed: usize,
+    free: usize,
 }
 
 // Nodes shaded, and how many colours that changed.
@@ -56,16 +57,18 @@ fn rooted(mut x: Record, i: usize, d: usize) -> Record
     x.with_phase(Phase::Roots((i + d) as u16))
 }
 
-fn swept(mut x: Record, s: AppendAt) -> Record
+// x is at Append from.
+fn swept(mut x: Record, from: usize, s: AppendAt) -> Record
+    requires { ⌜ from ≡ position (x .phase) ⌝ }
+    requires { ⌜ from ≤ s .i ⌝ }
     requires { ⌜ s .i < mostNodes ⌝ }
     requires { ⌜ s .last < mostNodes ⌝ }
-    requires { ⌜ s .changed ≤ s .d ⌝ }
-    requires { ⌜ x .free + (s .d - s .changed) ≤ mostNodes ⌝ }
-    requires { ⌜ x .steps + s .d < manySteps ⌝ }
+    requires { ⌜ s .free ≤ mostNodes ⌝ }
+    requires { ⌜ x .steps + (s .i - from) < manySteps ⌝ }
     ensures { λ r. ⌜ r ≡ swept x s ⌝ }
 {
-    x.steps = x.steps + s.d as u32;
-    x.free = x.free + (s.d - s.changed) as u16;
+    x.steps = x.steps + (s.i - from) as u32;
+    x.free = s.free as u16;
     x.last = s.last as u16;
     x.with_phase(Phase::Append(s.i as u16))
 }
@@ -88,33 +91,52 @@ pub fn roots(left: &[u16], right: &[u16], colour: &mut [u8], x: Record, i: u16, 
     }
 }
 
-// A white node i goes to the end of the free list; s where that is refused, or more would be free
-// than can be.
-fn append_white(
+// Black nodes become white, up to end or to a node that is not black.
+fn whitening(colour: &mut [u8], end: usize, from: AppendAt) -> AppendAt
+    requires { ⌜ from .i ≤ end ⌝ }
+    requires { ⌜ end ≤ length (now colour) ⌝ }
+    ensures { λ r. ⌜ (r .i ≤ end) × Whitens (was colour) end from (is colour) r ⌝ }
+{
+    let mut s = from;
+    while s.i < end {
+        let i = s.i;
+        if colour[i] != 2 {
+            return s;
+        }
+        colour[i] = 0;
+        s.i = i + 1;
+    }
+    s
+}
+
+// One step of Append; s where it is refused. One more may be free.
+fn append_one(
     left: &mut [u16],
     right: &mut [u16],
-    colour: &[u8],
+    colour: &mut [u8],
     x: Record,
     s: AppendAt,
 ) -> AppendAt
-    requires { ⌜ Passes (state (now left) (now right) (now colour) (swept x s)) ⌝ }
-    requires { ⌜ Room x (s .d + 1) ⌝ }
-    requires { ⌜ s .changed ≤ s .d ⌝ }
-    requires { ⌜ s .i + 1 < x .m ⌝ }
-    requires { ⌜ getD (now colour) (s .i) 0 ≡ 0 ⌝ }
-    ensures { λ r. ⌜ (r .d ≤ s .d + 1) × AppendLeads (was left) (was right) (was colour) x s
-        (is left) (is right) (was colour) r ⌝ }
+    requires { ⌜ CanAppend (now left) (now right) (now colour) x (s .i + 1) s ⌝ }
+    requires { ⌜ x .r + 1 < s .i ⌝ }
+    requires { ⌜ s .free + (x .r + 2) < x .m ⌝ }
+    ensures { λ r. ⌜ (r .i ≤ s .i + 1) × AppendLeads (was left) (was right) (was colour) x s
+        (is left) (is right) (is colour) r ⌝ }
 {
     let i = s.i;
     let last = s.last;
-    if i <= x.r as usize + 1 {
+    if colour[i] == 2 {
+        colour[i] = 0;
+        return AppendAt {
+            i: i + 1,
+            last,
+            free: s.free,
+        };
+    }
+    if colour[i] != 0 {
         return s;
     }
     if i == last {
-        return s;
-    }
-    let free = x.free as usize + (s.d - s.changed);
-    if x.m as usize <= free + x.r as usize + 2 {
         return s;
     }
     left[i] = 0;
@@ -123,63 +145,89 @@ fn append_white(
     AppendAt {
         i: i + 1,
         last: i,
-        d: s.d + 1,
-        changed: s.changed,
+        free: s.free + 1,
     }
 }
 
-// One step of Append; s where it is refused, or where it is the last node's.
-fn append_one(
+// Steps of Append up to end, or to one that is refused. All these nodes may be free.
+fn append_each(
     left: &mut [u16],
     right: &mut [u16],
     colour: &mut [u8],
     x: Record,
-    s: AppendAt,
+    end: usize,
+    from: AppendAt,
 ) -> AppendAt
-    requires { ⌜ Passes (state (now left) (now right) (now colour) (swept x s)) ⌝ }
-    requires { ⌜ Room x (s .d + 1) ⌝ }
-    requires { ⌜ s .changed ≤ s .d ⌝ }
-    ensures { λ r. ⌜ (r .d ≤ s .d + 1) × AppendLeads (was left) (was right) (was colour) x s
+    requires { ⌜ CanAppend (now left) (now right) (now colour) x end from ⌝ }
+    requires { ⌜ x .r + 1 < from .i ⌝ }
+    requires { ⌜ from .free + end + (x .r + 2) ≤ from .i + x .m ⌝ }
+    ensures { λ r. ⌜ (r .i ≤ end) × AppendLeads (was left) (was right) (was colour) x from
         (is left) (is right) (is colour) r ⌝ }
 {
-    let i = s.i;
-    if i + 1 == x.m as usize {
-        return s;
-    }
-    if colour[i] == 2 {
-        colour[i] = 0;
-        return AppendAt {
-            i: i + 1,
-            last: s.last,
-            d: s.d + 1,
-            changed: s.changed + 1,
-        };
-    }
-    if colour[i] == 0 {
-        return append_white(left, right, colour, x, s);
+    let mut s = from;
+    while s.i < end {
+        let t = append_one(left, right, colour, x, s);
+        if t.i == s.i {
+            return t;
+        }
+        s = t;
     }
     s
 }
 
+// Up to where all nodes from s.i on may be appended: no more are free then than can be.
+fn limit(x: Record, end: usize, s: AppendAt) -> usize
+    requires { ⌜ s .i ≤ end ⌝ }
+    requires { ⌜ end ≤ mostNodes ⌝ }
+    requires { ⌜ s .free + (x .r + 2) ≤ x .m ⌝ }
+    ensures { λ n. ⌜ (s .i ≤ n) × (n ≤ end) × (s .free + n + (x .r + 2) ≤ s .i + x .m) ⌝ }
+{
+    let i = s.i;
+    let room = x.m as usize - (s.free + x.r as usize + 2);
+    let most = ahead::least(end - i, room);
+    i + most
+}
+
+// Steps of Append behind the roots, up to end or to one that is refused, and no more than can be
+// free.
+fn append_some(
+    left: &mut [u16],
+    right: &mut [u16],
+    colour: &mut [u8],
+    x: Record,
+    end: usize,
+    s: AppendAt,
+) -> AppendAt
+    requires { ⌜ CanAppend (now left) (now right) (now colour) x end s ⌝ }
+    ensures { λ r. ⌜ (r .i ≤ end) × AppendLeads (was left) (was right) (was colour) x s
+        (is left) (is right) (is colour) r ⌝ }
+{
+    let i = s.i;
+    if i <= x.r as usize + 1 {
+        return s;
+    }
+    let near = limit(x, end, s);
+    append_each(left, right, colour, x, near, s)
+}
+
+// Steps of Append up to end, or to one that is refused or would have more free than can be.
 fn appending(
     left: &mut [u16],
     right: &mut [u16],
     colour: &mut [u8],
     x: Record,
-    cap: usize,
+    end: usize,
     from: AppendAt,
 ) -> AppendAt
-    requires { ⌜ Passes (state (now left) (now right) (now colour) (swept x from)) ⌝ }
-    requires { ⌜ Room x cap ⌝ }
-    requires { ⌜ from .d ≤ cap ⌝ }
-    requires { ⌜ from .changed ≤ from .d ⌝ }
-    ensures { λ r. ⌜ (r .d ≤ cap) × AppendLeads (was left) (was right) (was colour) x from
+    requires { ⌜ CanAppend (now left) (now right) (now colour) x end from ⌝ }
+    ensures { λ r. ⌜ (r .i ≤ end) × AppendLeads (was left) (was right) (was colour) x from
         (is left) (is right) (is colour) r ⌝ }
 {
     let mut s = from;
-    while s.d < cap {
-        let t = append_one(left, right, colour, x, s);
-        if t.d == s.d {
+    while s.i < end {
+        let whitened = whitening(colour, end, s);
+        let t = append_some(left, right, colour, x, end, whitened);
+        if t.i == s.i {
             return t;
         }
         s = t;
@@ -202,16 +250,18 @@ pub fn appends(
     ensures { λ r. ⌜ (r .d ≤ cap) × Leads (given left right colour x) (r .d) (r .changed)
         (state (is left) (is right) (is colour) (r .rec)) ⌝ }
 {
-    let from = AppendAt {
-        i: i as usize,
+    let from = i as usize;
+    let free = x.free as usize;
+    let near = ahead::least(cap, x.m as usize - 1 - from);
+    let begun = AppendAt {
+        i: from,
         last: x.last as usize,
-        d: 0,
-        changed: 0,
+        free,
     };
-    let s = appending(left, right, colour, x, cap, from);
+    let s = appending(left, right, colour, x, from + near, begun);
     Ahead {
-        d: s.d,
-        changed: s.changed,
-        rec: swept(x, s),
+        d: s.i - from,
+        changed: s.i + free - (from + s.free),
+        rec: swept(x, from, s),
     }
 }

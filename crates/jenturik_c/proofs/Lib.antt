@@ -1,3 +1,4 @@
 pub mod Faces
 pub mod Flats
 pub mod Kept
+pub mod Judges

@@ -241,11 +241,12 @@ pub extern "C" fn jenturik_look(
         ≡ facingCount (changes (looking (placeOf slot count word))) left right colour words ⌝ }
 {
     let w = *words;
-    if !record_words::is_record(w) {
-        return no_record();
+    let code = record_words::judge(left.len(), right.len(), colour.len(), w);
+    if code != 0 {
+        return tell(Answer::refused(code, 0), 0);
     }
     let p = Place { slot, count, word };
-    let made = editor::look(left, right, colour, record_words::record_of(w), p);
+    let made = editor::look_passed(left, right, colour, record_words::record_of(w), p);
     let answer = made.answer;
     let changed = made.changed;
     tell(answer, changed)
@@ -284,11 +285,12 @@ pub extern "C" fn jenturik_free_count(
     ensures { λ t. ⌜ t .changed ≡ 0 ⌝ }
 {
     let w = *words;
-    if !record_words::is_record(w) {
-        return no_record();
+    let code = record_words::judge(left.len(), right.len(), colour.len(), w);
+    if code != 0 {
+        return tell(Answer::refused(code, 0), 0);
     }
-    let answer = free_count::free_count(left, right, colour, record_words::record_of(w));
-    tell(answer, 0)
+    let x = record_words::record_of(w);
+    tell(Answer::Counted(x.free), 0)
 }
 
 // Points the source's edge on a side to the target, whose shade is owed.
@@ -315,8 +317,9 @@ pub extern "C" fn jenturik_link(
         (placeOf toslot tocount toword))) left right colour words ⌝ }
 {
     let w = *words;
-    if !record_words::is_record(w) {
-        return no_record();
+    let code = record_words::judge(left.len(), right.len(), colour.len(), w);
+    if code != 0 {
+        return tell(Answer::refused(code, 0), 0);
     }
     let p = Place { slot, count, word };
     let q = Place {
@@ -324,12 +327,11 @@ pub extern "C" fn jenturik_link(
         count: tocount,
         word: toword,
     };
-    let made = editor::link(left, right, colour, record_words::record_of(w), p, side, q);
+    let made = editor::link_passed(left, right, colour, record_words::record_of(w), p, side, q);
     let rec = made.rec;
     let answer = made.answer;
     let changed = made.changed;
-    let v = record_words::words_of(rec);
-    *words = v;
+    record_words::put(words, rec);
     tell(answer, changed)
 }
 
@@ -347,15 +349,15 @@ pub extern "C" fn jenturik_shade(
     ensures { λ t. ⌜ t .changed ≡ facingCount (changes shading) left right colour words ⌝ }
 {
     let w = *words;
-    if !record_words::is_record(w) {
-        return no_record();
+    let code = record_words::judge(left.len(), right.len(), colour.len(), w);
+    if code != 0 {
+        return tell(Answer::refused(code, 0), 0);
     }
-    let made = editor::shade(left, right, colour, record_words::record_of(w));
+    let made = editor::shade_passed(left, right, colour, record_words::record_of(w));
     let rec = made.rec;
     let answer = made.answer;
     let changed = made.changed;
-    let v = record_words::words_of(rec);
-    *words = v;
+    record_words::put(words, rec);
     tell(answer, changed)
 }
 
@@ -378,16 +380,16 @@ pub extern "C" fn jenturik_take(
         ≡ facingCount (changes (taking (placeOf slot count word) side)) left right colour words ⌝ }
 {
     let w = *words;
-    if !record_words::is_record(w) {
-        return no_record();
+    let code = record_words::judge(left.len(), right.len(), colour.len(), w);
+    if code != 0 {
+        return tell(Answer::refused(code, 0), 0);
     }
     let p = Place { slot, count, word };
-    let made = take::take(left, right, colour, record_words::record_of(w), p, side);
+    let made = take::take_passed(left, right, colour, record_words::record_of(w), p, side);
     let rec = made.rec;
     let answer = made.answer;
     let changed = made.changed;
-    let v = record_words::words_of(rec);
-    *words = v;
+    record_words::put(words, rec);
     tell(answer, changed)
 }
 
@@ -405,15 +407,17 @@ pub extern "C" fn jenturik_collect(
     ensures { λ t. ⌜ t .changed ≡ facingCount (changes collecting) left right colour words ⌝ }
 {
     let w = *words;
-    if !record_words::is_record(w) {
-        return no_record();
+    let code = record_words::judge(left.len(), right.len(), colour.len(), w);
+    if code != 0 {
+        return tell(Answer::refused(code, 0), 0);
     }
-    let made = collector::collect(left, right, colour, record_words::record_of(w));
+    let x = record_words::record_of(w);
+    let phase = x.phase;
+    let made = collector::phase_step(left, right, colour, x, phase);
     let rec = made.rec;
     let answer = made.answer;
     let changed = made.changed;
-    let v = record_words::words_of(rec);
-    *words = v;
+    record_words::put(words, rec);
     tell(answer, changed)
 }
 
@@ -444,20 +448,21 @@ pub extern "C" fn jenturik_collect_many(
         ≡ facingCount (λ s. fitted (changesAll (collects n) s)) left right colour words ⌝ }
 {
     let w = *words;
-    if !record_words::is_record(w) {
+    let code = record_words::judge(left.len(), right.len(), colour.len(), w);
+    if code != 0 {
         return Last {
             done: 0,
             changed: 0,
             node: 0,
             what: 0,
-            code: 2,
+            code: packed(code, 0),
         };
     }
-    let many = batch::collect_many(left, right, colour, record_words::record_of(w), n);
+    let x = record_words::record_of(w);
+    let many = batch::all_steps(left, right, colour, x, rules::bound(x.m, x.r), n);
     let rec = many.rec;
     let answer = many.answer;
-    let v = record_words::words_of(rec);
-    *words = v;
+    record_words::put(words, rec);
     Last {
         done: many.done,
         changed: fitted(many.changed),
@@ -642,8 +647,7 @@ pub extern "C" fn jenturik_schedule(
     }
     let ran = schedule_of(steps, left, right, colour, record_words::record_of(w));
     let rec = ran.rec;
-    let v = record_words::words_of(rec);
-    *words = v;
+    record_words::put(words, rec);
     Done {
         done: ran.done,
         code: ran.code as u16,

@@ -7,7 +7,6 @@ use lib.Dec.{eqb}
 use Rattle.base.specs.Choice.{pick, first}
 use Rattle.base.proofs.Tests.{split}
 use Rattle.rules.specs.Table.{State, Outcome, state, refuseWith, refuse, NIL, did, shadeIn, shade}
-use Rattle.rules.specs.Check.{checkOf}
 use Rattle.rules.specs.Places.{placeCode, walkFrom, walk, arrive}
 use Rattle.rules.specs.Editor.{sideCode, owedCode, depart}
 use Rattle.rules.specs.declared.Place.{Place}
@@ -73,11 +72,10 @@ found-below b edges m k w n t v e q h =
     subst (Lies m) (sym e ∙ q) (lies m _ (below b edges m k w n h))
 
 -- the codes of a step without a target
-pub no-target : (ll rl cl : ℕ) (x : Record) (p : Place) (side : ℕ) → editCode ll rl cl x p side 0
-    ≡ first (checkOf (ll ∷ rl ∷ []) cl x ∷ sideCode 2 side ∷ placeCode 2 (x .r) p ∷ owedCode
-    (x .owed) ∷ [])
+pub no-target : (x : Record) (p : Place) (side : ℕ) → editCode x p side 0
+    ≡ first (sideCode 2 side ∷ placeCode 2 (x .r) p ∷ owedCode (x .owed) ∷ [])
 unfolding editCode first pick
-no-target ll rl cl x p side = refl
+no-target x p side = refl
 
 -- a table that is known to be u's, with an answer and a record
 module _ (a : Answer) (x : Record) (l r c : List ℕ) (u : State) where

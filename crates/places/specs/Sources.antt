@@ -5,7 +5,6 @@ use Prim.Native.Nat.{ℕ}
 use mathlib.Core.List.{[], _∷_}
 use lib.Dec.{eqb}
 use Rattle.rules.specs.Table.{NIL}
-use Rattle.rules.specs.Check.{checkOf}
 use Rattle.rules.specs.Places.{placeCode}
 use Rattle.rules.specs.Editor.{sideCode, owedCode}
 use Rattle.rules.specs.declared.Record.{Record}
@@ -15,11 +14,11 @@ use Rattle.rules.specs.declared.Walk.the-variants.{At, Damaged}
 use Rattle.places.specs.declared.Source.{Source}
 use Rattle.places.specs.declared.Source.the-variants.{Found, Missing}
 
--- the refusals that read nothing of the table, in order; target is the code of the target's place
-unfoldable pub editCode : ℕ → ℕ → ℕ → Record → Place → ℕ → ℕ → ℕ
-editCode ll rl cl x p side target =
-    first (checkOf (ll ∷ rl ∷ []) cl x ∷ sideCode 2 side ∷ placeCode 2 (x .r) p ∷ target ∷ owedCode
-    (x .owed) ∷ [])
+-- the refusals after codes 1 and 2 that read nothing of the table, in order; target is the code of
+-- the target's place
+unfoldable pub editCode : Record → Place → ℕ → ℕ → ℕ
+editCode x p side target =
+    first (sideCode 2 side ∷ placeCode 2 (x .r) p ∷ target ∷ owedCode (x .owed) ∷ [])
 
 -- where a walk to a source ends; `Missing` has the code, the node and the detail of the refusal
 unfoldable pub sourceOf : Walk → Source

@@ -62,23 +62,12 @@ pub fn owed_code(owed: Owed) -> u8
     }
 }
 
-// What refuses a step that changes an edge before the table is read: 1, 2, 10, 3, 4 and 5. Between
-// its source's codes and 5 comes another: that of the target's place, 0 where there is no target.
-pub fn edit_code(
-    lefts: usize,
-    rights: usize,
-    colours: usize,
-    x: Record,
-    p: Place,
-    side: u32,
-    target: u8,
-) -> u8
-    ensures { λ c. ⌜ c ≡ editCode lefts rights colours x p side target ⌝ }
+// What refuses a step that changes an edge after codes 1 and 2, before the table is read: 10, 3, 4
+// and 5. Between its source's codes and 5 comes another: that of the target's place, 0 where there
+// is no target.
+pub fn edit_code(x: Record, p: Place, side: u32, target: u8) -> u8
+    ensures { λ c. ⌜ c ≡ editCode x p side target ⌝ }
 {
-    let checked = rules::check(lefts, rights, colours, x);
-    if checked != 0 {
-        return checked;
-    }
     let sided = side_code(side);
     if sided != 0 {
         return sided;

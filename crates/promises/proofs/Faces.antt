@@ -19,8 +19,6 @@ use Rattle.jenturik_c.proofs.jenturik_collect.Reads as c-collect
 use Rattle.jenturik_c.proofs.jenturik_collect_many.Reads as c-many
 use Rattle.jenturik_c.proofs.jenturik_collect_freed.Reads as c-freed
 use Rattle.jenturik_c.proofs.jenturik_schedule.Reads as c-schedule
-use Rattle.bench_steps.specs.Steps.{stepped}
-use Rattle.bench_steps.proofs.jenturik_steps.Reads as c-steps
 use Rattle.promises.specs.CallRuns.{lent}
 use Rattle.promises.specs.Words.{Fresh, Load, Look, InUse, FreeCount, Link, Shade, Take}
 use Rattle.promises.specs.Words.{Collect, CollectMany, CollectFreed, Schedule, left-in}
@@ -143,13 +141,6 @@ pub c-schedule-determined : (κs : _) (a : _) (r r′ : _) (s s′ : _)
     × (r .changed ≡ r′ .changed)
 c-schedule-determined κs a r r′ s s′ p q =
     (determined (p .0) (q .0), determined (p .1 .1) (q .1 .1))
-
--- the steps of ./bench
-pub c-steps-determined : (κs : _) (a : _) (r r′ : _) (s s′ : _)
-    → c-steps.Learnt κs a r s → c-steps.Learnt κs a r′ s′
-    → stepped r (now (s .0)) (now (s .1 .0)) (now (s .1 .1 .0)) (now (s .1 .1 .1 .0))
-    ≡ stepped r′ (now (s′ .0)) (now (s′ .1 .0)) (now (s′ .1 .1 .0)) (now (s′ .1 .1 .1 .0))
-c-steps-determined κs a r r′ s s′ = determined
 
 -- Fresh writes the words whatever they were
 pub c-fresh-leaves : (κs : _) (a : _) (r : _) (s : _) (w : List ℕ) → c-fresh.Learnt κs a r s

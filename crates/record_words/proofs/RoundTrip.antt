@@ -6,8 +6,8 @@ use mathlib.Core.Bool.{Bool, true, false, true≢false}
 use mathlib.Core.List.{List, [], _∷_}
 use mathlib.Core.Path.{_≡_, refl, sym, ap, _∙_}
 use lib.Dec.{eqb}
-use lib.ListN.{length, drop, drop-of-length-le}
-use lib.Seq.{drop-cons}
+use lib.ListN.{length, set, drop, drop-of-length-le}
+use lib.Seq.{drop-cons, set-getD}
 use borrow.Author.Tests.{eqb-true, eqb-false}
 use Rattle.base.specs.Choice.{pick}
 use Rattle.base.proofs.Tests.{each, facts, split, eq-no}
@@ -15,10 +15,11 @@ use Rattle.rules.proofs.Phases.{phase-back, phase-there}
 use Rattle.rules.specs.declared.Record.{Record}
 use Rattle.rules.specs.declared.Owed.{Owed}
 use Rattle.rules.specs.declared.Owed.the-variants.{Nothing, Node}
-use Rattle.record_words.specs.Words.{word, owesOf, owedOf, wordsOf}
+use Rattle.record_words.specs.Words.{word, owesOf, owedOf, laidOut, wordsOf}
 use Rattle.record_words.specs.Words.{shadeOf}
 use Rattle.record_words.specs.Words.{recordOf, flagged, isRecord, WORDS, USED, unused}
-use Rattle.record_words.specs.Words.{PHASE, I, K, OWES, OWED}
+use Rattle.record_words.specs.Words.{NODES, SLOTS, PHASE, I, K, OWES, OWED, LAST, STEPS}
+use Rattle.record_words.specs.Words.{CYCLES, TOOK, BLACKENED, LASTBLACKENED, FREECOUNT}
 use Rattle.record_words.proofs.Widths.{widths}
 
 owed-back : (o : Owed) → shadeOf (owesOf o) (owedOf o) ≡ o
@@ -31,7 +32,7 @@ unfolding recordOf
 record-back x = rw (phase-back (x .phase), owed-back (x .owed))
 
 -- a number is 0 where it is not told
-none-told : (told : Bool) (n : ℕ) → true ≡ flagged told n → told ≡ false → 0 ≡ n
+pub none-told : (told : Bool) (n : ℕ) → true ≡ flagged told n → told ≡ false → 0 ≡ n
 unfolding flagged pick
 none-told true n e q = absurd (true≢false q)
 none-told false n e q = sym (eqb-true _ _ (sym e))
@@ -41,13 +42,15 @@ pub record SameOwed (owes n : ℕ) (o : Owed) : Type 0 where
   pub owes-is : owesOf o ≡ owes
   pub n-is : owedOf o ≡ n
 
-owed-there : (owes n : ℕ) → owes ≤ 1 → true ≡ flagged (eqb owes 1) n → SameOwed owes n (shadeOf owes n)
+owed-there : (owes n : ℕ) → owes ≤ 1 → true ≡ flagged (eqb owes 1) n → SameOwed owes n
+    (shadeOf owes n)
 unfolding shadeOf
 owed-there owes n one e =
     split (SameOwed owes n) (eqb owes 0) _ _
     (λ a. record {
       owes-is = sym (eqb-true _ _ a);
-      n-is = none-told (eqb owes 1) n e (sym (eq-no owes 1 (λ z. omega (facts, eqb-true owes 0 a))));
+      n-is = none-told (eqb owes 1) n e (sym (eq-no owes 1 (λ z. omega
+          (facts, eqb-true owes 0 a))));
     })
     (λ a. record { owes-is = omega (arith, one, eqb-false owes 0 a); n-is = refl })
 
@@ -65,6 +68,10 @@ parts w (suc k) n e = drop-cons w n 0 (omega arith)
 none : (n : ℕ) → n ≤ 0 → 0 ≡ n
 none n h = omega arith
 
+-- the words that have no use
+idle : (w : List ℕ) → true ≡ isRecord w → unused ≡ part w USED (WORDS - USED)
+idle w e = let f = widths w e in search (none, f) depth 16
+
 pub words-back : (w : List ℕ) → true ≡ isRecord w → wordsOf (recordOf w) ≡ w
 unfolding recordOf isRecord
 words-back w e =
@@ -74,6 +81,31 @@ words-back w e =
     (none-told _ (word w K) (sym (t .1 .1 .0))) in
     let o = owed-there (word w OWES) (word w OWED) (omega (arith, f)) (sym (t .1 .1 .1 .0)) in
     let all = parts w WORDS 0 (sym (eqb-true (length w) WORDS (t .0))) in
-    let idle : unused ≡ part w USED (WORDS - USED) = search (none, f) depth 16 in
-    let same : wordsOf (recordOf w) ≡ part w 0 WORDS = search (idle, p, o) depth 16 in
+    let u = idle w e in
+    let same : wordsOf (recordOf w) ≡ part w 0 WORDS = search (u, p, o) depth 16 in
     same ∙ sym all
+
+-- a word that is left as it is
+pub same-stored : (w : List ℕ) (n v : ℕ) → word w n ≡ v → w ≡ set w n v
+same-stored w n v e = sym (rw (← e) (set-getD w n 0))
+
+-- the words in use from the phase on, stored one after the other
+abbrev stored : List ℕ → Record → ℕ → ℕ → ℕ → ℕ → ℕ → List ℕ
+stored w x tag i k owes n =
+    set (set (set (set (set (set (set (set (set (set (set (set w PHASE tag) I i) K k) OWES owes)
+    OWED n) LAST (x .last)) STEPS (x .steps)) CYCLES (x .cycles)) TOOK (x .took)) BLACKENED
+    (x .blackened)) LASTBLACKENED (x .lastblackened)) FREECOUNT (x .free)
+
+pub all-stored : (w w₁ w₂ : List ℕ) → true ≡ isRecord w → (x : Record) (tag i k owes n : ℕ)
+    → w₁ ≡ set w NODES (x .m) → w₂ ≡ set w₁ SLOTS (x .r)
+    → stored w₂ x tag i k owes n ≡ laidOut x tag i k owes n
+unfolding isRecord
+all-stored w w₁ w₂ e x tag i k owes n p q =
+    let all = parts w WORDS 0 (sym (eqb-true (length w) WORDS (each _ e .0))) in
+    let nodes = p ∙ ap (λ (v : List ℕ). set v NODES (x .m)) all in
+    let slots = q ∙ ap (λ (v : List ℕ). set v SLOTS (x .r)) nodes in
+    ap (λ (v : List ℕ). stored v x tag i k owes n) slots
+    ∙ ap
+    (λ (v : List ℕ). x .m ∷ x .r ∷ tag ∷ i ∷ k ∷ owes ∷ n ∷ x .last ∷ x .steps ∷ x .cycles
+    ∷ x .took ∷ x .blackened ∷ x .lastblackened ∷ x .free ∷ v)
+    (sym (idle w e))

@@ -5,6 +5,7 @@ use mathlib.Core.Bool.{Bool, true}
 use mathlib.Core.List.{List, [], _∷_}
 use lib.Dec.{leb, eqb}
 use lib.ListN.{length, getD, replicate}
+use Rattle.rules.specs.Check.{checkOf}
 use Rattle.rules.specs.Phases.{mostTag, tagOf, position, second, hasSecond, phaseOf}
 use Rattle.rules.specs.declared.Record.{Record}
 use Rattle.rules.specs.declared.Phase.{Phase}
@@ -141,6 +142,10 @@ unfoldable pub isRecord : List ℕ → Bool
 isRecord w =
     every (eqb (length w) WORDS ∷ within w WORDS ∷ flagged
     (hasSecond (word w PHASE)) (word w K) ∷ flagged (eqb (word w OWES) 1) (word w OWED) ∷ [])
+
+-- [C 4] codes 1 and 2 of words, for slices of these lengths: 2 where they are no record's
+unfoldable pub judged : List ℕ → ℕ → List ℕ → ℕ
+judged edges colours w = pick (isRecord w) (checkOf edges colours (recordOf w)) 2
 
 -- the same as facts: what the first n words are
 abbrev pub Within : List ℕ → ℕ → Type 0

@@ -3,13 +3,19 @@ use rules::Owed;
 use rules::Phase;
 use rules::Record;
 ghost use mathlib.Core.Path.{_≡_};
-ghost use mathlib.Core.Bool.{true};
+ghost use mathlib.Core.Bool.{true, not};
 ghost use mathlib.Core.List.{[], _∷_};
-ghost use lib.Dec.{leb};
+ghost use Prim.Native.Nat.{_+_, _<_, _≤_};
+ghost use lib.Dec.{leb, ltb, eqb};
+ghost use lib.ListN.{set};
 ghost use Rattle.base.specs.Choice.{every};
 ghost use Rattle.record_words.specs.Words.{owesOf, owedOf, laidOut, wordsOf};
 ghost use Rattle.record_words.specs.Words.{shadeOf, pickedUp, recordOf, within, flagged};
-ghost use Rattle.record_words.specs.Words.{isRecord, Within, WORDS};
+ghost use Rattle.record_words.specs.Words.{isRecord, judged, Within, WORDS, word};
+ghost use Rattle.record_words.specs.Words.{NODES, SLOTS};
+ghost use Rattle.rules.specs.Table.{mostNodes, mostSlots, FREE};
+ghost use Rattle.rules.specs.Check.{positionOk, secondOk, lastOk, freeOk, countsOk, recordOk};
+ghost use Rattle.base.specs.Lent.{was, is};
 
 // How many words there are, and the number of each, by the names of include/jenturik.h.
 pub const WORDS: usize = 24;
@@ -115,6 +121,65 @@ pub fn words_of(x: Record) -> [u32; WORDS]
     )
 }
 
+// Stores a word, where it was another one. A call that loads two words at once would wait for a
+// store of one of them, and most words stay as they are.
+fn keep(words: &mut [u32; WORDS], n: usize, v: u32)
+    requires { ⌜ n < WORDS ⌝ }
+    ensures { λ _. ⌜ is words ≡ set (was words) n v ⌝ }
+{
+    if words[n] == v {
+        return;
+    }
+    words[n] = v;
+}
+
+// Words that were a record's become these; those that have no use stay 0.
+fn lay(words: &mut [u32; WORDS], x: Record, tag: u32, i: u16, k: u16, owes: u32, n: u16)
+    requires { ⌜ true ≡ isRecord (now words) ⌝ }
+    ensures { λ _. ⌜ is words ≡ laidOut x tag i k owes n ⌝ }
+{
+    let m = x.m;
+    let r = x.r;
+    let last = x.last;
+    let blackened = x.blackened;
+    let lastblackened = x.lastblackened;
+    let free = x.free;
+    keep(words, NODES, m as u32);
+    keep(words, SLOTS, r as u32);
+    words[PHASE] = tag;
+    words[I] = i as u32;
+    words[K] = k as u32;
+    words[OWES] = owes;
+    words[OWED] = n as u32;
+    words[LAST] = last as u32;
+    words[STEPS] = x.steps;
+    words[CYCLES] = x.cycles;
+    words[TOOK] = x.took;
+    words[BLACKENED] = blackened as u32;
+    words[LASTBLACKENED] = lastblackened as u32;
+    words[FREECOUNT] = free as u32;
+}
+
+// Words that were a record's become those of this one.
+pub fn put(words: &mut [u32; WORDS], x: Record)
+    requires { ⌜ true ≡ isRecord (now words) ⌝ }
+    ensures { λ _. ⌜ is words ≡ wordsOf x ⌝ }
+    ensures { λ _. ⌜ true ≡ isRecord (is words) ⌝ }
+{
+    let p = x.phase;
+    let o = x.owed;
+    let tag = rules::tag(p);
+    lay(
+        words,
+        x,
+        tag,
+        rules::position(p),
+        rules::second(p),
+        owes(o),
+        owed(o),
+    );
+}
+
 // Whether four numbers are at most top.
 fn at_most(top: u32, a: u32, b: u32, c: u32, d: u32) -> bool
     ensures { λ ok. ⌜ ok ≡ every (leb a top ∷ leb b top ∷ leb c top ∷ leb d top ∷ []) ⌝ }
@@ -187,6 +252,125 @@ pub fn is_record(w: [u32; WORDS]) -> bool
         return false;
     }
     flagged(w[OWES] == 1, w[OWED])
+}
+
+// Whether a phase's numbers are in their ranges, by the number of the phase.
+fn phase_ok(m: u32, r: u32, tag: u32, i: u32, k: u32) -> bool
+    requires { ⌜ r ≤ mostSlots ⌝ }
+    ensures { λ ok. ⌜ ok ≡ every (positionOk m r tag i ∷ secondOk m tag k ∷ []) ⌝ }
+{
+    if tag == 0 {
+        return i <= r + 1;
+    }
+    if m <= i {
+        return false;
+    }
+    if tag == 1 {
+        if k < 1 {
+            return false;
+        }
+        return k <= m;
+    }
+    if !rules::has_second(tag) {
+        return true;
+    }
+    if k == 1 {
+        return false;
+    }
+    k < m
+}
+
+// Whether the node owed is good; where none is, its word is 0, which is.
+fn owed_ok(m: u32, n: u32) -> bool
+    ensures { λ ok. ⌜ ok ≡ every (not (eqb n FREE) ∷ ltb n m ∷ []) ⌝ }
+{
+    if n == 1 {
+        return false;
+    }
+    n < m
+}
+
+fn last_ok(m: u32, r: u32, n: u32) -> bool
+    requires { ⌜ r ≤ mostSlots ⌝ }
+    ensures { λ ok. ⌜ ok ≡ lastOk m r n ⌝ }
+{
+    if n == 1 {
+        return true;
+    }
+    if n < r + 2 {
+        return false;
+    }
+    n < m
+}
+
+fn free_ok(m: u32, r: u32, last: u32, n: u32) -> bool
+    requires { ⌜ r ≤ mostSlots ⌝ }
+    requires { ⌜ r + 2 ≤ m ⌝ }
+    ensures { λ ok. ⌜ ok ≡ freeOk m r last n ⌝ }
+{
+    if m - (r + 2) < n {
+        return false;
+    }
+    if last == 1 {
+        return n == 0;
+    }
+    n != 0
+}
+
+fn counts_ok(w: [u32; WORDS], b: u32) -> bool
+    ensures { λ ok. ⌜ ok ≡ countsOk (recordOf w) b ⌝ }
+{
+    if w[NODES] < w[BLACKENED] {
+        return false;
+    }
+    if b <= w[STEPS] {
+        return false;
+    }
+    if w[NODES] < w[LASTBLACKENED] {
+        return false;
+    }
+    w[TOOK] <= b
+}
+
+// Whether the record passes that words are: the tests of `rules::check`, without the record.
+fn record_ok(w: [u32; WORDS]) -> bool
+    requires { ⌜ true ≡ isRecord w ⌝ }
+    requires { ⌜ word w NODES ≤ mostNodes ⌝ }
+    requires { ⌜ word w SLOTS ≤ mostSlots ⌝ }
+    requires { ⌜ word w SLOTS + 2 ≤ word w NODES ⌝ }
+    ensures { λ ok. ⌜ ok ≡ recordOk 2 (recordOf w) ⌝ }
+{
+    let m = w[NODES];
+    let r = w[SLOTS];
+    if !phase_ok(m, r, w[PHASE], w[I], w[K]) {
+        return false;
+    }
+    if !owed_ok(m, w[OWED]) {
+        return false;
+    }
+    if !last_ok(m, r, w[LAST]) {
+        return false;
+    }
+    if !free_ok(m, r, w[LAST], w[FREECOUNT]) {
+        return false;
+    }
+    counts_ok(w, rules::bound(m as u16, r as u16))
+}
+
+// Codes 1 and 2 of words, for slices of these lengths; 0 where neither is given. No record is made.
+pub fn judge(lefts: usize, rights: usize, colours: usize, w: [u32; WORDS]) -> u8
+    ensures { λ code. ⌜ code ≡ judged (lefts ∷ rights ∷ []) colours w ⌝ }
+{
+    if !is_record(w) {
+        return 2;
+    }
+    if !rules::size_ok(w[NODES] as usize, w[SLOTS] as usize, lefts, rights, colours) {
+        return 1;
+    }
+    if !record_ok(w) {
+        return 2;
+    }
+    0
 }
 
 fn shade_of(owes: u32, n: u16) -> Owed

@@ -13,6 +13,7 @@ ghost use Rattle.rules.specs.Changes.{differing};
 ghost use Rattle.skim.specs.Stops.{stops, NoStop};
 ghost use Rattle.ahead.specs.Leads.{Passes, Room, Leads, CanShade};
 ghost use Rattle.scanning.specs.Marking.{standing, Valid, ScanLeads, CanVisit};
+ghost use Rattle.scanning.specs.Chains.{OneGray, CanFollow, Follows};
 ghost use Rattle.base.specs.Lent.{was, is};
 ghost use Rattle.rules.specs.Lent.{given};
 
@@ -228,7 +229,168 @@ fn visit(left: &[u16], right: &[u16], colour: &mut [u8], x: Record, cap: usize, 
     }
 }
 
-// The looks that find nothing, and then the visit of a gray node where one is there.
+// Where a chain of nodes is followed: the node visited last; the one it made gray, which is the
+// only gray one; steps made; nodes blackened.
+struct Chain {
+    last: usize,
+    gray: usize,
+    d: usize,
+    blackened: usize,
+}
+
+// The node before i, round the end of the table.
+fn before(i: usize, m: usize) -> usize
+    requires { ⌜ i < m ⌝ }
+    ensures { λ r. ⌜ (i ≡ 0 → r + 1 ≡ m) × (0 < i → r + 1 ≡ i) ⌝ }
+{
+    if i == 0 {
+        return m - 1;
+    }
+    i - 1
+}
+
+// How far it is from i on to t, a whole round if they are the same.
+fn beyond(i: usize, t: usize, m: usize) -> usize
+    requires { ⌜ i < m ⌝ }
+    requires { ⌜ t < m ⌝ }
+    requires { ⌜ m ≤ mostNodes ⌝ }
+    ensures { λ e. ⌜ (e ≤ m) × ((i < t → i + e ≡ t) × (t ≤ i → i + e ≡ t + m)) ⌝ }
+{
+    if i < t {
+        return t - i;
+    }
+    t + m - i
+}
+
+// Whether a chain can be followed from here: the node made gray last is the only one, and there is
+// room for a round of looks and a visit.
+fn one_gray(colour: &[u8], x: Record, cap: usize, s: ScanAt) -> bool
+    requires { ⌜ s .grayed < length (now colour) ⌝ }
+    requires { ⌜ x .m ≤ mostNodes ⌝ }
+    requires { ⌜ s .d ≤ cap ⌝ }
+    ensures { λ ok. ⌜ (ok ≡ true → OneGray (was colour) x cap s) ⌝ }
+{
+    if s.stops != 1 {
+        return false;
+    }
+    if s.k != x.m as usize {
+        return false;
+    }
+    if cap - s.d < x.m as usize + 5 {
+        return false;
+    }
+    let t = s.grayed;
+    colour[t] == 1
+}
+
+// Whether the visit of a node with the edges e and f makes the node at e gray and no other.
+fn can_follow(m: u16, colour: &[u8], e: u16, f: u16) -> bool
+    requires { ⌜ m ≤ length (now colour) ⌝ }
+    ensures { λ ok. ⌜ (ok ≡ true → CanFollow m (was colour) e f) ⌝ }
+{
+    if !can_shade(m, colour, e) {
+        return false;
+    }
+    if !can_shade(m, colour, f) {
+        return false;
+    }
+    let a = e as usize;
+    if colour[a] != 0 {
+        return false;
+    }
+    let b = f as usize;
+    if colour[b] == 0 {
+        return false;
+    }
+    true
+}
+
+// Makes node n gray and node i black.
+fn pass_on(colour: &mut [u8], i: usize, n: usize)
+    requires { ⌜ i < length (now colour) ⌝ }
+    requires { ⌜ n < length (now colour) ⌝ }
+    ensures { λ _. ⌜ is colour ≡ set (set (was colour) n 1) i 2 ⌝ }
+{
+    colour[n] = 1;
+    colour[i] = 2;
+}
+
+// Follows the left edges for as long as each visit makes one node gray, from which the next is
+// found without a look at the colours between.
+fn follow_left(
+    left: &[u16],
+    right: &[u16],
+    colour: &mut [u8],
+    x: Record,
+    cap: usize,
+    s: ScanAt,
+    from: Chain,
+) -> Chain
+    requires { ⌜ Room x cap ⌝ }
+    requires { ⌜ OneGray (now colour) x cap s ⌝ }
+    requires { ⌜ Follows (now left) (now right) (now colour) x cap s (now colour) from ⌝ }
+    ensures { λ r. ⌜ Follows (was left) (was right) (was colour) x cap s (is colour) r ⌝ }
+{
+    let m = x.m as usize;
+    let limit = cap - (m + 5);
+    let mut q = from;
+    while q.blackened < s.k {
+        let t = q.gray;
+        if limit < q.d {
+            return q;
+        }
+        if !can_follow(x.m, colour, left[t], right[t]) {
+            return q;
+        }
+        let n = left[t] as usize;
+        pass_on(colour, t, n);
+        q = Chain {
+            last: t,
+            gray: n,
+            d: q.d + 5 + beyond(q.last, t, m),
+            blackened: q.blackened + 1,
+        };
+    }
+    q
+}
+
+// Follows a chain where the node made gray last is the only one.
+fn follow(
+    left: &[u16],
+    right: &[u16],
+    colour: &mut [u8],
+    x: Record,
+    cap: usize,
+    s: ScanAt,
+) -> ScanAt
+    requires { ⌜ Valid (now left) (now right) (now colour) x cap s ⌝ }
+    requires { ⌜ Room x cap ⌝ }
+    ensures { λ r. ⌜ ScanLeads (was left) (was right) (was colour) x cap s (is colour) r ⌝ }
+{
+    let m = x.m as usize;
+    if !one_gray(colour, x, cap, s) {
+        return s;
+    }
+    let from = Chain {
+        last: before(s.i, m),
+        gray: s.grayed,
+        d: s.d,
+        blackened: s.blackened,
+    };
+    let q = follow_left(left, right, colour, x, cap, s, from);
+    ScanAt {
+        i: around(q.last + 1, m),
+        k: m,
+        blackened: q.blackened,
+        d: q.d,
+        stops: 1,
+        grayed: q.gray,
+        changed: s.changed + 2 * (q.blackened - s.blackened),
+    }
+}
+
+// The looks that find nothing, and then the visit of a gray node where one is there, and of those
+// behind it on a chain.
 fn look_and_visit(
     left: &[u16],
     right: &[u16],
@@ -245,7 +407,8 @@ fn look_and_visit(
     if !can_visit(left, right, colour, x, cap, h) {
         return h;
     }
-    visit(left, right, colour, x, cap, h)
+    let v = visit(left, right, colour, x, cap, h);
+    follow(left, right, colour, x, cap, v)
 }
 
 // Looks and visits for as long as they lead on.

@@ -9,6 +9,7 @@ ghost use mathlib.Core.List.{[], _∷_};
 ghost use Prim.Native.Nat.{_+_, _<_, _≤_};
 ghost use lib.ListN.{length};
 ghost use Rattle.rules.specs.Table.{mostSlots, state, edgeOf, shadeIn};
+ghost use Rattle.rules.specs.Check.{check};
 ghost use Rattle.rules.specs.Editor.{depart, badFree, relink, takeNext, takeFirst};
 ghost use Rattle.rules.specs.Steps.{step, taking};
 ghost use Rattle.rules.specs.Changes.{differing, changes};
@@ -162,6 +163,27 @@ fn take_from(
     }
 }
 
+// Take, where neither code 1 nor 2 is given.
+pub fn take_passed(
+    left: &mut [u16],
+    right: &mut [u16],
+    colour: &mut [u8],
+    x: Record,
+    p: Place,
+    side: u32,
+) -> Made
+    requires { ⌜ 0 ≡ check (state (now left) (now right) (now colour) x) ⌝ }
+    ensures { λ r. ⌜ leaves r left right colour
+        ≡ step (taking p side) (given left right colour x) ⌝ }
+    ensures { λ r. ⌜ r .changed ≡ changes (taking p side) (given left right colour x) ⌝ }
+{
+    let code = places::edit_code(x, p, side, 0);
+    if code != 0 {
+        return rules::refusal(code, 0, x);
+    }
+    take_from(left, right, colour, x, p, side)
+}
+
 // The edge of the source on a side now points to the first free node, which leaves the free list.
 pub fn take(
     left: &mut [u16],
@@ -175,9 +197,9 @@ pub fn take(
         ≡ step (taking p side) (given left right colour x) ⌝ }
     ensures { λ r. ⌜ r .changed ≡ changes (taking p side) (given left right colour x) ⌝ }
 {
-    let code = places::edit_code(left.len(), right.len(), colour.len(), x, p, side, 0);
+    let code = rules::check(left.len(), right.len(), colour.len(), x);
     if code != 0 {
         return rules::refusal(code, 0, x);
     }
-    take_from(left, right, colour, x, p, side)
+    take_passed(left, right, colour, x, p, side)
 }

@@ -1,45 +1,30 @@
--- The codes come in the definition's order. Where all are 0, the record is good and the slots
--- and the side are in range, which is all that `link_from` asks.
-use mathlib.Core.Path.{sym, _∙_}
-use native.Mathlib.Omega.{arith}
+-- Codes 1 and 2 come first, as in the definition; where neither is given, the rest is one call.
+use mathlib.Core.Path.{refl, sym, _∙_}
 use borrow.Author.Needs.{needs}
-use Rattle.base.proofs.Tests.{zeros}
+use Rattle.base.proofs.Tests.{first-here}
 use Rattle.rules.specs.Editor.{link}
 use Rattle.rules.proofs.Changes.{told-none}
-use Rattle.rules.proofs.Checked.{good}
-use Rattle.rules.proofs.Laws.{unless-done, unless-refused, step-linking}
-use Rattle.rules.proofs.Walks.{slot-below, side-below}
-use Rattle.places.specs.Sources.{editCode}
+use Rattle.rules.proofs.Laws.{unless-refused, step-linking}
 use Rattle.editor.proofs.link.Statement.{statement}
 use Rattle.editor.proofs.link.Tie as tie
 
-place-code-requires : tie.Need-place-code-requires
-place-code-requires c κs = search needs
-
-edit-code-requires : tie.Need-edit-code-requires
-edit-code-requires c κs = search needs
+check-requires : tie.Need-check-requires
+check-requires c κs = search needs
 
 refusal-requires : tie.Need-refusal-requires
 refusal-requires c κs = search needs
 
 returns : tie.Need-returns
-unfolding link editCode
+unfolding link
 returns c =
-    let at-edit-code = c .before .before in
-    let target = at-edit-code .before .place-code .ensures in
-    let code = rw target at (at-edit-code .edit-code .ensures) in
+    let code = first-here _ _ _ _ (c .before .before .check .ensures)
+    (c .before .if1 .taken) refl in
     told-none _ _ _ _ _ (rw (step-linking, c .refusal .ensures)
     (unless-refused _ _ _ _ code (c .before .if1 .taken))) (rw (c .refusal .ensures))
 
-link-from-requires : tie.Need-link-from-requires
-unfolding editCode
-link-from-requires c κs =
-    let at-if1 = c .before .before in
-    let target = at-if1 .before .before .place-code .ensures in
-    let code = rw target at (at-if1 .before .edit-code .ensures) in
-    let z = zeros _ (sym (at-if1 .if1 .left) ∙ code) in
-    let g = good _ _ _ _ (z .0) in let p = slot-below _ _ _ (z .1 .1 .0) in
-    let q = slot-below _ _ _ (z .1 .1 .1 .0) in let d = side-below _ _ (z .1 .0) in omega arith
+link-passed-requires : tie.Need-link-passed-requires
+link-passed-requires c κs = sym (c .before .before .if1 .left) ∙ c .before .before .before .check
+    .ensures
 
 same-length : tie.Need-same-length
 same-length c = search needs
@@ -48,24 +33,16 @@ same-length-2 : tie.Need-same-length-2
 same-length-2 c = search needs
 
 returns-2 : tie.Need-returns-2
-unfolding link editCode
-returns-2 c =
-    let at-if1 = c .before .before .before .before .before .before .before in
-    let target = at-if1 .before .before .place-code .ensures in
-    let code = rw target at (at-if1 .before .edit-code .ensures) in
-    let done = c .before .before .before .before .link-from .ensures in
-    told-none _ _ _ _ _ (rw step-linking (unless-done _ _ _ _ _ code (at-if1 .if1 .left)
-    (done .0 _))) (done .1)
+returns-2 c = c .before .before .before .before .link-passed .ensures
 
 pub link-spec : {M : Type 1} → statement M
 link-spec =
     tie.close
     (tie.spec
-    place-code-requires
-    edit-code-requires
+    check-requires
     refusal-requires
     returns
-    link-from-requires
+    link-passed-requires
     same-length
     same-length-2
     returns-2)

@@ -4,35 +4,34 @@ use Rattle.in_order.specs.Sweeping.{swept}
 use Rattle.in_order.proofs.swept.Statement.{statement}
 use Rattle.in_order.proofs.swept.Tie as tie
 
+sub-x : tie.Need-sub-x
+sub-x c = search needs
+
 cast-x : tie.Need-cast-x
 cast-x c = search needs
 
 add-x : tie.Need-add-x
 add-x c = search needs
 
-sub-x : tie.Need-sub-x
-sub-x c = search needs
-
 cast-x-2 : tie.Need-cast-x-2
 cast-x-2 c = search needs
-
-add-x-2 : tie.Need-add-x-2
-add-x-2 c = search needs
 
 cast-x-3 : tie.Need-cast-x-3
 cast-x-3 c = search needs
 
-cast-t5 : tie.Need-cast-t5
-cast-t5 c = search needs
+cast-t6 : tie.Need-cast-t6
+cast-t6 c = search needs
 
 with-phase-requires : tie.Need-with-phase-requires
 with-phase-requires c κs = search needs
 
 returns : tie.Need-returns
 unfolding swept
-returns c = search needs
+returns c =
+    let at-entry = c .before .before .before .before .before .before in
+    rw (← at-entry .pre .0) (c .with-phase .ensures)
 
 pub swept-spec : {M : Type 1} → statement M
 swept-spec =
     tie.close
-    (tie.spec cast-x add-x sub-x cast-x-2 add-x-2 cast-x-3 cast-t5 with-phase-requires returns)
+    (tie.spec sub-x cast-x add-x cast-x-2 cast-x-3 cast-t6 with-phase-requires returns)

@@ -1,37 +1,59 @@
--- Words that are no record's are refused with 2. Else the batch is made over the record that the
--- words are: its two facts are the face's, and the record's words are written back.
-use mathlib.Core.Path.{refl, ap, _∙_}
+-- A code that the words are given refuses the call. Else the batch is made over the record that the
+-- words are, which passes: its facts are the face's, and the record's words are written back.
+use mathlib.Core.Path.{refl, sym, ap, _∙_}
 use borrow.Author.Needs.{needs}
-use Rattle.base.proofs.Tests.{not-no, not-yes}
-use Rattle.jenturik_c.proofs.Faces.{spurned-run, spurned-count, spurned-last}
-use Rattle.jenturik_c.proofs.Faces.{faces-run, faces-count, faces-last, packs}
+use native.Mathlib.Omega.{arith}
+use Rattle.rules.proofs.Checked.{good}
+use Rattle.batch.proofs.Last.{scheduled}
 use Rattle.jenturik_c.specs.Face.{fitted}
+use Rattle.jenturik_c.proofs.Faces.{faces-run, faces-count, faces-last, packs}
+use Rattle.jenturik_c.proofs.Judges.{a-record, passes, small, refuses-run, refuses-last}
+use Rattle.jenturik_c.proofs.Judges.{refuses-sum}
 use Rattle.jenturik_c.proofs.jenturik_collect_many.Statement.{statement}
 use Rattle.jenturik_c.proofs.jenturik_collect_many.Tie as tie
 
-is-record-requires : tie.Need-is-record-requires
-is-record-requires c κs = search needs
+judge-requires : tie.Need-judge-requires
+judge-requires c κs = search needs
+
+packed-requires : tie.Need-packed-requires
+packed-requires c κs = (small _ _ _ _ _ (c .before .judge .ensures), omega arith)
 
 returns : tie.Need-returns
 returns c =
-    let none = not-yes _ (c .if1 .taken) ∙ c .before .is-record .ensures in (
-      spurned-run _ _ _ _ none _,
+    let code = c .before .before .judge .ensures in
+    let some = c .before .if1 .taken in (
+      rw (c .packed .ensures .0, c .packed .ensures .1) (refuses-run _ _ _ _ _ code some _),
       (
-        spurned-last _ _ _ _ none _,
-        (λ h. h, spurned-count _ _ _ _ none _ _ refl),
+        rw (c .packed .ensures .0, c .packed .ensures .1) (refuses-last _ _ _ _ _ code some _),
+        (λ h. h, refuses-sum _ _ _ _ _ code some _),
       ),
     )
 
 record-of-requires : tie.Need-record-of-requires
-record-of-requires c κs =
-    (not-no _ (c .before .before .before .if1 .left)
-    ∙ c .before .before .before .before .is-record .ensures)
+record-of-requires c κs = a-record _ _ _ _ _ (c .before .judge .ensures) (c .if1 .left)
 
-collect-many-requires : tie.Need-collect-many-requires
-collect-many-requires c κs = search needs
+bound-requires : tie.Need-bound-requires
+bound-requires c κs = let g = good _ _ _ _ (passes _ _ _ _ _
+    (c .before .before .before .before .before .judge .ensures)
+    (c .before .before .before .before .if1 .left) _
+    (c .before .before .before .record-of .ensures)) in omega arith
 
-words-of-requires : tie.Need-words-of-requires
-words-of-requires c κs = search needs
+all-steps-requires : tie.Need-all-steps-requires
+all-steps-requires c κs = (
+  record {
+    code = passes _ _ _ _ _
+        (c .before .before .before .before .before .before .judge .ensures)
+        (c .before .before .before .before .before .if1 .left) _
+        (c .before .before .before .before .record-of .ensures);
+  },
+  c .bound .ensures,
+)
+
+put-requires : tie.Need-put-requires
+put-requires c κs = a-record _ _ _ _ _ (c .before .before .before .before .before .before .before
+    .before .before .before .before .before .before .before .before .judge .ensures)
+    (c .before .before .before .before .before .before .before .before .before .before .before
+    .before .before .before .if1 .left)
 
 fitted-requires : tie.Need-fitted-requires
 fitted-requires c κs = search needs
@@ -48,13 +70,18 @@ code-requires c κs = search needs
 detail-requires : tie.Need-detail-requires
 detail-requires c κs = search needs
 
-packed-requires : tie.Need-packed-requires
-packed-requires c κs =
-    let at-words-of = c .before .before .before .before .before in
-    let at-collect-many = at-words-of .before .before .before .before .before .before .before
-    .before in
-    packs _ _ _ _ _ (at-collect-many .collect-many .ensures .0 .1) (c .before .code .ensures)
-    (c .detail .ensures)
+packed-requires-2 : tie.Need-packed-requires-2
+packed-requires-2 c κs =
+    let code = passes _ _ _ _ _ (c .before .before .before .before .before .before .before .before
+    .before .before .before .before .before .before .before .before .before .before .before .before
+    .before .judge .ensures) (c .before .before .before .before .before .before .before .before
+    .before .before .before .before .before .before .before .before .before .before .before .before
+    .if1 .left) _ (c .before .before .before .before .before .before .before .before .before .before
+    .before .before .before .before .before .before .before .before .before .record-of .ensures) in
+    let many = scheduled _ _ _ _ _ (record { code = code })
+    (c .before .before .before .before .before .before .before .before .before .before .before
+    .before .before .before .all-steps .ensures .0) in
+    packs _ _ _ _ _ (many .1) (c .before .code .ensures) (c .detail .ensures)
 
 same-length : tie.Need-same-length
 same-length c = search needs
@@ -67,38 +94,46 @@ same-length-3 c = search needs
 
 returns-2 : tie.Need-returns-2
 returns-2 c =
-    let at-detail = c .before in
-    let at-code = at-detail .before in
-    let at-what = at-code .before in
-    let at-fitted = at-what .before .before in
-    let at-collect-many = at-fitted .before .before .before .before .before .before .before .before
-    .before in
-    let at-record-of = at-collect-many .before in
-    let at-if1 = at-record-of .before .before .before .before in
-    let a-record = not-no _ (at-if1 .if1 .left) ∙ at-if1 .before .is-record .ensures in
-    let same = at-record-of .record-of .ensures in
-    let written = at-fitted .before .words-of .ensures in
-    let many = at-collect-many .collect-many .ensures in (
+    let code = passes _ _ _ _ _ (c .before .before .before .before .before .before .before .before
+    .before .before .before .before .before .before .before .before .before .before .before .before
+    .before .before .judge .ensures) (c .before .before .before .before .before .before .before
+    .before .before .before .before .before .before .before .before .before .before .before .before
+    .before .before .if1 .left) _ (c .before .before .before .before .before .before .before .before
+    .before .before .before .before .before .before .before .before .before .before .before .before
+    .record-of .ensures) in
+    let words = a-record _ _ _ _ _ (c .before .before .before .before .before .before .before
+    .before .before .before .before .before .before .before .before .before .before .before .before
+    .before .before .before .judge .ensures) (c .before .before .before .before .before .before
+    .before .before .before .before .before .before .before .before .before .before .before .before
+    .before .before .before .if1 .left) in
+    let same = c .before .before .before .before .before .before .before .before .before .before
+    .before .before .before .before .before .before .before .before .before .before .record-of
+    .ensures in
+    let done = c .before .before .before .before .before .before .before .before .before .before
+    .before .before .before .before .before .all-steps .ensures in
+    let many = scheduled _ _ _ _ _ (record { code = code }) (done .0) in
+    let at-what = c .before .before .before in
+    let written = c .before .before .before .before .before .before .put .ensures in (
       rw (
-        c .packed .ensures .0,
-        c .packed .ensures .1,
-        at-code .code .ensures,
-        at-detail .detail .ensures,
-      ) (faces-run _ _ _ _ _ _ _ _ _ a-record same _ _ _ _ _ (many .0 .0) (written .0)),
+        c .packed2 .ensures .0,
+        c .packed2 .ensures .1,
+        c .before .before .code .ensures,
+        c .before .detail .ensures,
+      ) (faces-run _ _ _ _ _ _ _ _ _ words same _ _ _ _ _ (many .0) (written .0)),
       (
-        faces-last _ _ _ _ _ _ _ _ a-record same (many .0 .1)
+        faces-last _ _ _ _ _ _ _ _ words same (many .1)
             (rw (
               at-what .what .ensures,
-              c .packed .ensures .0,
-              c .packed .ensures .1,
-              at-code .code .ensures,
-              at-detail .detail .ensures,
-              at-what .before .node .ensures,
+              c .packed2 .ensures .0,
+              c .packed2 .ensures .1,
+              c .before .before .code .ensures,
+              c .before .detail .ensures,
+              c .before .before .before .before .node .ensures,
             )),
         (
           λ h. written .1,
-          faces-count _ _ _ _ _ a-record same _ _
-              (at-fitted .fitted .ensures ∙ ap fitted (many .1)),
+          faces-count _ _ _ _ _ words same _ _
+              (c .before .before .before .before .before .fitted .ensures ∙ ap fitted (done .1)),
         ),
       ),
     )
@@ -107,17 +142,19 @@ pub jenturik-collect-many-spec : {M : Type 1} → statement M
 jenturik-collect-many-spec =
     tie.close
     (tie.spec
-    is-record-requires
+    judge-requires
+    packed-requires
     returns
     record-of-requires
-    collect-many-requires
-    words-of-requires
+    bound-requires
+    all-steps-requires
+    put-requires
     fitted-requires
     node-requires
     what-requires
     code-requires
     detail-requires
-    packed-requires
+    packed-requires-2
     same-length
     same-length-2
     same-length-3

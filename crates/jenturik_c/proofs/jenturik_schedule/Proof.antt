@@ -25,14 +25,17 @@ record-of-requires c κs =
 schedule-of-requires : tie.Need-schedule-of-requires
 schedule-of-requires c κs = search needs
 
-words-of-requires : tie.Need-words-of-requires
-words-of-requires c κs = search needs
-
-cast-t19 : tie.Need-cast-t19
-cast-t19 c = search needs
+put-requires : tie.Need-put-requires
+put-requires c κs =
+    let at-if1 = c .before .before .before .before .before .before .before .before .before
+    .before .before .before .before in
+    not-no _ (at-if1 .if1 .left) ∙ at-if1 .before .is-record .ensures
 
 cast-t20 : tie.Need-cast-t20
 cast-t20 c = search needs
+
+cast-t21 : tie.Need-cast-t21
+cast-t21 c = search needs
 
 fitted-requires : tie.Need-fitted-requires
 fitted-requires c κs = search needs
@@ -48,15 +51,15 @@ same-length-3 c = search needs
 
 returns-2 : tie.Need-returns-2
 returns-2 c =
-    let at-words-of = c .before .before .before in
-    let at-left = at-words-of .before .before .before .before .before .before .before in
+    let at-put = c .before .before .before in
+    let at-left = at-put .before .before .before .before .before .before .before .before in
     let at-schedule-of = at-left .before in
     let at-record-of = at-schedule-of .before in
     let at-if1 = at-record-of .before .before .before .before in
     let a-record = not-no _ (at-if1 .if1 .left) ∙ at-if1 .before .is-record .ensures in
     let same = at-record-of .record-of .ensures in
     let done = at-schedule-of .schedule-of .ensures in
-    let written = at-words-of .words-of .ensures in (
+    let written = at-put .put .ensures in (
       faces-run _ _ _ _ _ _ _ _ _ a-record same _ _ _ _ _ (done .0) (written .0),
       (
         λ h. written .1,
@@ -72,9 +75,9 @@ jenturik-schedule-spec =
     returns
     record-of-requires
     schedule-of-requires
-    words-of-requires
-    cast-t19
+    put-requires
     cast-t20
+    cast-t21
     fitted-requires
     same-length
     same-length-2

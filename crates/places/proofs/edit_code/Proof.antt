@@ -16,48 +16,39 @@ here z c cs h k = first-here z c c cs refl h k
 skip : (z c : ℕ) (cs : List ℕ) → c ≡ 0 → z ≡ first cs → z ≡ first (c ∷ cs)
 skip z c cs h k = first-skip z c c cs refl h k
 
-check-requires : tie.Need-check-requires
-check-requires c κs = search needs
+side-code-requires : tie.Need-side-code-requires
+side-code-requires c κs = search needs
 
 returns : tie.Need-returns
 unfolding editCode
 returns c = search (firsts, needs) depth 12
 
-side-code-requires : tie.Need-side-code-requires
-side-code-requires c κs = search needs
+place-code-requires : tie.Need-place-code-requires
+place-code-requires c κs = search needs
 
 returns-2 : tie.Need-returns-2
 unfolding editCode
 returns-2 c = search (firsts, needs) depth 12
 
-place-code-requires : tie.Need-place-code-requires
-place-code-requires c κs = search needs
-
 returns-3 : tie.Need-returns-3
 unfolding editCode
-returns-3 c = search (firsts, needs) depth 12
-
-returns-4 : tie.Need-returns-4
-unfolding editCode
-returns-4 c = search (firsts, here, needs) depth 12
+returns-3 c = search (firsts, here, needs) depth 12
 
 owed-code-requires : tie.Need-owed-code-requires
 owed-code-requires c κs = search needs
 
-returns-5 : tie.Need-returns-5
+returns-4 : tie.Need-returns-4
 unfolding editCode
-returns-5 c = search (firsts, skip, needs) depth 12
+returns-4 c = search (firsts, skip, needs) depth 12
 
 pub edit-code-spec : {M : Type 1} → statement M
 edit-code-spec =
     tie.close
     (tie.spec
-    check-requires
-    returns
     side-code-requires
-    returns-2
+    returns
     place-code-requires
+    returns-2
     returns-3
-    returns-4
     owed-code-requires
-    returns-5)
+    returns-4)

@@ -32,13 +32,21 @@ visit-requires c κs =
       ),
     )
 
+follow-requires : tie.Need-follow-requires
+follow-requires c κs =
+    let at-entry = c .before .before .before .before .before .before .before .before .before
+    .before .before .before .before in
+    (c .before .before .before .visit .ensures .valid, at-entry .pre .1)
+
 same-length-2 : tie.Need-same-length-2
 same-length-2 c = search needs
 
 returns-2 : tie.Need-returns-2
 returns-2 c =
-    let at-look-on = c .before .before .before .before .before .before .before in
-    goes-on _ _ _ _ _ _ _ _ _ _ (at-look-on .look-on .ensures) (c .before .before .visit .ensures)
+    let at-visit = c .before .before .before .before .before .before in
+    let at-look-on = at-visit .before .before .before .before .before in
+    goes-on _ _ _ _ _ _ _ _ _ _ (at-look-on .look-on .ensures)
+    (goes-on _ _ _ _ _ _ _ _ _ _ (at-visit .visit .ensures) (c .before .before .follow .ensures))
 
 pub look-and-visit-spec : {M : Type 1} → statement M
 look-and-visit-spec =
@@ -49,5 +57,6 @@ look-and-visit-spec =
     same-length
     returns
     visit-requires
+    follow-requires
     same-length-2
     returns-2)

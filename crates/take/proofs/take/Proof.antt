@@ -1,20 +1,15 @@
--- The codes come in the definition's order; a target's there is none. Where all are 0, the
--- record is good and the slot and the side are in range, which is all that `take_from` asks.
-use mathlib.Core.Path.{sym, _∙_}
-use native.Mathlib.Omega.{arith}
+-- Codes 1 and 2 come first, as in the definition; where neither is given, the rest is one call.
+use mathlib.Core.Path.{refl, sym, _∙_}
 use borrow.Author.Needs.{needs}
-use Rattle.base.proofs.Tests.{zeros}
+use Rattle.base.proofs.Tests.{first-here}
 use Rattle.rules.specs.Editor.{take}
-use Rattle.rules.proofs.Changes.{told, told-none}
-use Rattle.rules.proofs.Checked.{good}
-use Rattle.rules.proofs.Laws.{unless-done, unless-refused, step-taking}
-use Rattle.rules.proofs.Walks.{slot-below, side-below}
-use Rattle.places.proofs.Arrivals.{no-target}
+use Rattle.rules.proofs.Changes.{told-none}
+use Rattle.rules.proofs.Laws.{unless-refused, step-taking}
 use Rattle.take.proofs.take.Statement.{statement}
 use Rattle.take.proofs.take.Tie as tie
 
-edit-code-requires : tie.Need-edit-code-requires
-edit-code-requires c κs = search needs
+check-requires : tie.Need-check-requires
+check-requires c κs = search needs
 
 refusal-requires : tie.Need-refusal-requires
 refusal-requires c κs = search needs
@@ -22,17 +17,14 @@ refusal-requires c κs = search needs
 returns : tie.Need-returns
 unfolding take
 returns c =
+    let code = first-here _ _ _ _ (c .before .before .check .ensures)
+    (c .before .if1 .taken) refl in
     told-none _ _ _ _ _ (rw (step-taking, c .refusal .ensures)
-    (unless-refused _ _ _ _ (c .before .before .edit-code .ensures ∙ no-target _ _ _ _ _ _)
-    (c .before .if1 .taken))) (rw (c .refusal .ensures))
+    (unless-refused _ _ _ _ code (c .before .if1 .taken))) (rw (c .refusal .ensures))
 
-take-from-requires : tie.Need-take-from-requires
-take-from-requires c κs =
-    let at-if1 = c .before .before .before in
-    let code = at-if1 .before .edit-code .ensures ∙ no-target _ _ _ _ _ _ in
-    let z = zeros _ (sym (at-if1 .if1 .left) ∙ code) in
-    let g = good _ _ _ _ (z .0) in
-    let p = slot-below _ _ _ (z .1 .1 .0) in let d = side-below _ _ (z .1 .0) in omega arith
+take-passed-requires : tie.Need-take-passed-requires
+take-passed-requires c κs = sym (c .before .before .before .if1 .left) ∙ c .before .before .before
+    .before .check .ensures
 
 same-length : tie.Need-same-length
 same-length c = search needs
@@ -44,22 +36,16 @@ same-length-3 : tie.Need-same-length-3
 same-length-3 c = search needs
 
 returns-2 : tie.Need-returns-2
-unfolding take
-returns-2 c =
-    let at-take-from = c .before .before .before .before .before .before in
-    let at-if1 = at-take-from .before .before .before .before in
-    let code = at-if1 .before .edit-code .ensures ∙ no-target _ _ _ _ _ _ in
-    told _ _ _ _ _ _ (rw step-taking (unless-done _ _ _ _ _ code (at-if1 .if1 .left)
-    (at-take-from .take-from .ensures .0))) (at-take-from .take-from .ensures .1)
+returns-2 c = c .before .before .before .before .before .before .take-passed .ensures
 
 pub take-spec : {M : Type 1} → statement M
 take-spec =
     tie.close
     (tie.spec
-    edit-code-requires
+    check-requires
     refusal-requires
     returns
-    take-from-requires
+    take-passed-requires
     same-length
     same-length-2
     same-length-3
