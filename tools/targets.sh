@@ -4,7 +4,7 @@
 # The crates that are offered to C. Each is an object of its own: what two of them have in common is
 # in both.
 # shellcheck disable=SC2034
-modules='jenturik_c'
+modules='jenturik_c jenturik_text'
 
 # A machine's name here, and its name for LLVM.
 targets='

@@ -3,6 +3,7 @@
  * and each must be found. */
 #include "colours.h"
 #include "jenturik.h"
+#include "jenturik_text.h"
 #include <stdlib.h>
 
 #define ARRAYS                                                                                     \
@@ -470,6 +471,31 @@ jenturik_freed __wrap_jenturik_collect_freed(ARRAYS, uint32_t *words, size_t n, 
     if (wrong(186)) a.changed += a.freed;                            /* a node appended counts */
     if (wrong(187) && a.code != 0) a.freed = 0; /* the list is forgotten at a refusal */
     return a;
+}
+
+#define BUFFERS                                                                                    \
+    uint16_t *left, size_t ls, uint16_t *right, size_t rs, uint8_t *colour, size_t cs,             \
+        uint32_t *lefts, size_t lfs, uint32_t *rights, size_t rts, uint8_t *line, size_t bytes,    \
+        uint8_t *out, size_t room, uint32_t *words, const uint8_t *input, size_t n
+
+jenturik_turned __real_jenturik_turn(BUFFERS);
+
+jenturik_turned __wrap_jenturik_turn(BUFFERS) {
+    static uint32_t own[JENTURIK_SESSION_WORDS]; /* the words of the last block */
+    if (wrong(200) && n == 0 && words[JENTURIK_STAGE] == JENTURIK_SERVING)
+        return (jenturik_turned){0, 0, 0, 0};                       /* the end ends no line */
+    if (wrong(201) && bytes > JENTURIK_LINE) bytes = JENTURIK_LINE; /* a longer buffer passes */
+    if (wrong(202)) words[JENTURIK_SESSION_WORDS - 1] = 0;          /* a word is not judged */
+    if (wrong(203) && own[JENTURIK_STAGE] != 0) memcpy(words, own, sizeof own); /* its own run */
+    jenturik_turned t = __real_jenturik_turn(left, ls, right, rs, colour, cs, lefts, lfs, rights,
+                                             rts, line, bytes, out, room, words, input, n);
+    if (wrong(204) && t.code == 0) words[JENTURIK_LINE_USED] = 0; /* a block ends its last line */
+    if (wrong(205) && t.over == 2) t.over = 1;                    /* not which line was refused */
+    if (wrong(206) && t.code == 1) t.code = 2;                    /* a size told as words */
+    if (wrong(207) && t.code == 2) memset(words, 0, sizeof own);  /* a refusal begins a run */
+    if (wrong(208) && t.used > JENTURIK_ANSWER) t.used = JENTURIK_ANSWER; /* one answer a block */
+    memcpy(own, words, sizeof own);
+    return t;
 }
 
 /* A copy of the steps, their unused words 0. */

@@ -27,6 +27,9 @@ use Rattle.transcript.proofs.is_stopped.Reads as is-stopped
 use Rattle.transcript.proofs.block.Reads as block
 use Rattle.transcript.proofs.finish.Reads as finish
 use Rattle.transcript.proofs.turn.Reads as turn
+use Rattle.jenturik_text.specs.declared.Turned.{Turned}
+use Rattle.jenturik_text.specs.Turning.{Left}
+use Rattle.jenturik_text.proofs.jenturik_turn.Reads as jenturik-turn
 
 -- two things that equal one are equal
 determined : {A : Type 0} {a b c : A} → a ≡ c → b ≡ c → a ≡ b
@@ -180,3 +183,32 @@ pub turn-determined : (κs : _) (a : _) (r r′ : _) (s s′ : _) → turn.Learn
     (now (s′ .1 .1 .1 .1 .0)) (now (s′ .1 .1 .1 .1 .1 .0))
     (now (s′ .1 .1 .1 .1 .1 .1 .0))))
 turn-determined κs a r r′ s s′ p q = tells _ _ _ _ (determined p q)
+
+turned : ℕ → ℕ → ℕ → ℕ → Turned
+turned used code over fourth = record { used = used; code = code; over = over; zero = fourth }
+
+told : (r r′ : Turned) → r .used ≡ r′ .used → r .code ≡ r′ .code → r .over ≡ r′ .over
+    → r .zero ≡ r′ .zero → r ≡ r′
+unfolding turned
+told r r′ a b c d =
+    let e : turned (r .used) (r .code) (r .over) (r .zero)
+    ≡ turned (r′ .used) (r′ .code) (r′ .over) (r′ .zero) = rw (a, b, c, d) in
+    e
+
+pub jenturik-turn-determined : (κs : _) (a : _) (r r′ : _) (s s′ : _)
+    → jenturik-turn.Learnt κs a r s → jenturik-turn.Learnt κs a r′ s′
+    → (r ≡ r′)
+    × (now (s .1 .1 .1 .1 .1 .1 .1 .0) ≡ now (s′ .1 .1 .1 .1 .1 .1 .1 .0))
+    × ((buffers (now (s .0)) (now (s .1 .0)) (now (s .1 .1 .0)) (now (s .1 .1 .1 .0))
+    (now (s .1 .1 .1 .1 .0)) (now (s .1 .1 .1 .1 .1 .0))
+    (now (s .1 .1 .1 .1 .1 .1 .0)))
+    ≡ (buffers (now (s′ .0)) (now (s′ .1 .0)) (now (s′ .1 .1 .0)) (now (s′ .1 .1 .1 .0))
+    (now (s′ .1 .1 .1 .1 .0)) (now (s′ .1 .1 .1 .1 .1 .0))
+    (now (s′ .1 .1 .1 .1 .1 .1 .0))))
+jenturik-turn-determined κs a r r′ s s′ p q =
+    let e = determined (p .0) (q .0) in (
+      told r r′ (ap (λ (x : Left). x .told .used) e) (ap (λ (x : Left). x .told .code) e)
+          (ap (λ (x : Left). x .told .over) e) (ap (λ (x : Left). x .told .zero) e),
+      ap (λ (x : Left). x .words) e,
+      tells _ _ _ _ (ap (λ (x : Left). x .stand) e) .1,
+    )

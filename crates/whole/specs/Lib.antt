@@ -1,1 +1,2 @@
 pub mod Transcript
+pub mod Calls

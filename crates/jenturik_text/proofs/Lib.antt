@@ -1,0 +1,4 @@
+pub mod Parts
+pub mod Sessions
+pub mod Ranges
+pub mod Turns
