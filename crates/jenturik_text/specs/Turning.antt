@@ -75,8 +75,8 @@ done s =
 abbrev pub spurned : ℕ → List ℕ → Stand → Left
 spurned code w s = leftOf (answered 0 code 0) w s
 
-unfoldable pub turns : List ℕ → List ℕ → List ℕ → List ℕ → List ℕ → List ℕ → List ℕ → List ℕ → List ℕ
-    → Left
+unfoldable pub turns : List ℕ → List ℕ → List ℕ → List ℕ → List ℕ → List ℕ → List ℕ → List ℕ
+    → List ℕ → Left
 turns w l k c ls rs line out input =
     let s = stand (sessionOf w) l k c ls rs line out in
     let code = judged (length line) w in

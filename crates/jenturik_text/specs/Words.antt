@@ -64,7 +64,8 @@ unfoldable pub stageOf : ℕ → ℕ → ℕ → Stage
 stageOf tag m n =
     pick (eqb tag 0) Opening
     (pick (eqb tag 1) (Second m)
-    (pick (eqb tag 2) (Loading m n) (pick (eqb tag 3) (Serving m) (pick (eqb tag 4) Over (Stopped m)))))
+    (pick (eqb tag 2) (Loading m n)
+    (pick (eqb tag 3) (Serving m) (pick (eqb tag 4) Over (Stopped m)))))
 
 -- the session that words are; the output is empty
 unfoldable pub sessionOf : List ℕ → Session
