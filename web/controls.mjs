@@ -135,15 +135,26 @@ function save(text, name) {
 
 // ---- light and dark
 
-function otherTheme() {
-    const dark = matchMedia("(prefers-color-scheme: dark)").matches;
-    const now = document.documentElement.dataset.theme ?? (dark ? "dark" : "light");
-    document.documentElement.dataset.theme = now === "dark" ? "light" : "dark";
+const systemDark = matchMedia("(prefers-color-scheme: dark)");
+let chosen = null; // the theme that the user chose; until then it is the system's
+
+function layTheme() {
+    document.documentElement.dataset.theme = chosen ?? (systemDark.matches ? "dark" : "light");
+}
+
+function showTheme() {
+    layTheme();
     page.cells.forget();
     page.show();
 }
 
+function otherTheme() {
+    chosen = document.documentElement.dataset.theme === "dark" ? "light" : "dark";
+    showTheme();
+}
+
 export function layControls() {
+    layTheme();
     layKeys();
     layStories();
     laySpeeds();
@@ -164,9 +175,6 @@ export function layControls() {
         save(page.run.lines.join(""), "schedule.txt"));
     find("theme").addEventListener("click", otherTheme);
     find("open-keys").addEventListener("click", () => find("keys").showModal());
-    matchMedia("(prefers-color-scheme: dark)").addEventListener("change", () => {
-        page.cells.forget();
-        page.show();
-    });
+    systemDark.addEventListener("change", showTheme);
     window.addEventListener("resize", () => page.show());
 }

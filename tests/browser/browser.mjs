@@ -153,9 +153,11 @@ class Tab {
         await this.send("Input.insertText", { text });
     }
 
+    // The system's theme changes, and the page follows.
     async theme(name) {
         await this.send("Emulation.setEmulatedMedia",
             { features: [{ name: "prefers-color-scheme", value: name }] });
+        await this.until(`document.documentElement.dataset.theme === "${name}"`);
     }
 
     // A picture of the page, smaller by a factor.
