@@ -167,25 +167,25 @@ module _ (s : State) (g : Passed (count s) (s .rec)) where
 
 pub kept : (s : State) → 0 ≡ check s → Kept s (phaseStep s (s .rec .phase))
 kept s e = phase-comes s (Kept s) e record {
-  stays = λ a. record { rec = g .self; edges = refl; colours = refl };
-  shades = λ n p h. record {
+  stays = λ a t. record { rec = g .self; edges = refl; colours = refl };
+  shades = λ n p h k. record {
     rec = moved-steady s g p h;
     edges = refl;
     colours = shaded-length (s .colour) n;
   };
-  looks = λ i p h. record { rec = moved-steady s g p h; edges = refl; colours = refl };
-  marks = λ i. record { rec = marked-steady s g; edges = refl; colours = refl };
-  blackens = λ i h. record {
+  looks = λ i p h k. record { rec = moved-steady s g p h; edges = refl; colours = refl };
+  marks = λ i k. record { rec = marked-steady s g; edges = refl; colours = refl };
+  blackens = λ i h k. record {
     rec = rescan-steady s g i h;
     edges = refl;
     colours = length-set (s .colour) i 2;
   };
-  whitens = λ i h. record {
+  whitens = λ i q h. record {
     rec = after-steady s g i (s .rec .last) (s .rec .free) h (g .self .last);
     edges = refl;
     colours = length-set (s .colour) i 0;
   };
-  appends = λ i l h. record {
+  appends = λ i q l h v. record {
     rec = after-steady s g i i (s .rec .free + 1) h (last-ok _ _ _ l h);
     edges = edges-kept s g i;
     colours = colours-kept s g i;

@@ -46,7 +46,8 @@ fn after_roots(m: u16, r: u16, i: u16) -> Phase
     if i == r + 1 {
         return Phase::Scan(0, m);
     }
-    Phase::Roots(i + 1)
+    let next = i + 1;
+    Phase::Roots(next)
 }
 
 // Scan i, k: Left i where node i is gray, else on to the next node.

@@ -10,7 +10,10 @@ use lib.Dec.{eqb}
 use Rattle.base.specs.Choice.{pick}
 use Rattle.base.proofs.Tests.{split, pick-yes, pick-no, eq-no}
 use Rattle.rules.specs.Table.{white}
-use Rattle.freed.specs.Gathers.{dark, far}
+use Rattle.rules.specs.Phases.{appendTag, tagOf}
+use Rattle.rules.specs.Facts.{quiet}
+use Rattle.freed.specs.Gathers.{dark, darkIn, far}
+use Rattle.rules.specs.declared.Phase.{Phase}
 use Rattle.rules.specs.declared.Phase.the-variants.{Append}
 
 pub dark-most : (n i : ℕ) (c : List ℕ) → dark n i c ≤ n
@@ -74,6 +77,17 @@ dark-on m n i k c h f e =
 pub dark-within : (n k e i : ℕ) (c : List ℕ) → n ≤ dark k i c → k ≤ e → n ≤ dark e i c
 dark-within n k e i c h g = let z = dark-more k e i c g in omega arith
 
+-- how far it is in Append, and in any other phase
+pub far-dark : (m i : ℕ) (c : List ℕ) → far m c (Append i) ≡ dark (m - i) i c
+unfolding quiet darkIn pick
+far-dark m i c = omega arith
+
+pub far-quiet : (m : ℕ) (c : List ℕ) (p : Phase) → eqb (tagOf p) appendTag ≡ false
+    → darkIn m c p ≡ 0
+unfolding darkIn
+far-quiet m c p e = sym (pick-no _ _ _ _ (sym e) refl)
+
 pub far-append : (n e m i : ℕ) (c : List ℕ) → n ≤ dark (e - i) i c → e ≤ m
     → n ≤ far m c (Append i)
-far-append n e m i c h g = let z = dark-more (e - i) (m - i) i c (omega arith) in omega arith
+far-append n e m i c h g =
+    omega (arith, far-dark m i c, dark-more (e - i) (m - i) i c (omega arith))

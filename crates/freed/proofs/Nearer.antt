@@ -1,39 +1,37 @@
--- A collector step brings the next node that is appended nearer by one step at most. By the cases
--- of the collector's step.
+-- A collector step brings the next node that is appended nearer by one step at most. By what a step
+-- comes to.
 use Prim.Native.Nat.{ℕ, suc, _+_, _-_, _≤_, _<_}
 use mathlib.Core.Path.{_≡_, refl, sym}
 use mathlib.Core.Bool.{true, false}
 use mathlib.Core.List.{List, []}
 use native.Mathlib.Omega.{arith}
+use lib.ListN.{set}
 use lib.Dec.{eqb}
-use borrow.Author.Tests.{eqb-true, eqb-false}
+use Rattle.base.specs.Choice.{pick}
 use Rattle.base.proofs.Tests.{split, pick-no}
-use Rattle.rules.specs.Table.{State, Outcome, did, refuseWith, unless, white, colourOf}
-use Rattle.rules.specs.Table.{withColour}
-use Rattle.rules.specs.Records.{afterAppend}
-use Rattle.rules.specs.Check.{check}
-use Rattle.rules.specs.Collector.{shadeStep, afterRoots, scanStep, readStep, blackStep}
-use Rattle.rules.specs.Collector.{appendWhite, appendStep, phaseStep, collect}
+use Rattle.rules.specs.Table.{State, Outcome, did, white, colourOf, withColour}
+use Rattle.rules.specs.Records.{moreFree, withLast, afterAppend}
+use Rattle.rules.specs.Collector.{append}
 use Rattle.rules.specs.Steps.{step, collecting, codeOf}
-use Rattle.rules.specs.Facts.{InRange}
+use Rattle.rules.specs.Facts.{quiet, Nears}
 use Rattle.rules.specs.declared.Answer.{Answer}
-use Rattle.rules.specs.declared.Answer.the-variants.{Shaded, Looked, Blackened, Whitened}
+use Rattle.rules.specs.declared.Answer.the-variants.{Shaded, Looked, Blackened, Whitened, Appended}
 use Rattle.rules.specs.declared.Record.{Record}
 use Rattle.rules.specs.declared.Phase.{Phase}
-use Rattle.rules.specs.declared.Phase.the-variants.{Roots, Scan, Left, ShadeLeft, Right}
-use Rattle.rules.specs.declared.Phase.the-variants.{ShadeRight, Black, Append}
-use Rattle.rules.proofs.Checked.{inside}
+use Rattle.rules.specs.declared.Phase.the-variants.{Roots, Append}
+use Rattle.rules.proofs.PhaseSteps.{collect-comes}
 use Rattle.rules.proofs.Laws.{step-collecting}
 use Rattle.freed.specs.Freed.{isAppended, appendedBy}
-use Rattle.freed.specs.Gathers.{far}
-use Rattle.freed.proofs.Colours.{dark-most, dark-white, dark-next, dark-set}
+use Rattle.freed.specs.Gathers.{dark, far}
+use Rattle.freed.proofs.Colours.{dark-most, dark-white, dark-next, dark-set, far-dark}
+use Rattle.freed.proofs.Colours.{far-quiet}
 
 -- how far the next node that is appended is, at least
 abbrev pub farIn : State → ℕ
 farIn s = far (s .rec .m) (s .colour) (s .rec .phase)
 
 -- what a step that is done comes to, from a phase p
-pub record Nears (s : State) (p : Phase) (o : Outcome) : Type 0 where
+pub record Brings (s : State) (p : Phase) (o : Outcome) : Type 0 where
   pub near : codeOf (o .answer) ≡ 0 → far (s .rec .m) (s .colour) p ≤ suc (farIn (o .state))
   pub none : codeOf (o .answer) ≡ 0 → 1 ≤ far (s .rec .m) (s .colour) p
       → appendedBy (o .answer) ≡ []
@@ -42,96 +40,71 @@ other : (a : Answer) → isAppended a ≡ false → appendedBy a ≡ []
 unfolding appendedBy
 other a e = sym (pick-no _ _ _ _ (sym e) refl)
 
+quiet-roots : (m i : ℕ) → quiet m (Roots i) ≡ m
+unfolding quiet pick
+quiet-roots m i = refl
+
 module _ (s : State) where
-  refuses : (p : Phase) (code node detail : ℕ) → 1 ≤ code
-      → Nears s p (refuseWith s code node detail)
-  refuses p code node detail h =
-      record { near = λ z. absurd (omega arith); none = λ z. absurd (omega arith) }
+  -- a step before Append, from q to p
+  before : (q p : Phase) (c : List ℕ) → Nears (s .rec .m) q p
+      → far (s .rec .m) (s .colour) q ≤ suc (far (s .rec .m) c p)
+  before q p c k = omega (arith, k .1, far-quiet (s .rec .m) (s .colour) q (k .0))
 
-  -- the phase after a step is no nearer, whatever the colours
-  abbrev Far : Phase → Phase → Type 0
-  Far p then = (c : List ℕ) → far (s .rec .m) (s .colour) p ≤ suc (far (s .rec .m) c then)
-
-  shades : (p then : Phase) (n : ℕ) → Far p then → Nears s p (shadeStep s n then)
-  unfolding shadeStep
-  shades p then n h =
-      split (Nears s p) _ _ _ (λ e. refuses p 14 _ _ (omega arith))
-      (λ e. record { near = λ z. h _; none = λ z k. other (Shaded n) refl })
-
-  reads : (p then : Phase) (i side n : ℕ) → Far p then → Nears s p (readStep s i side n then)
-  unfolding readStep
-  reads p then i side n h =
-      split (Nears s p) _ _ _ (λ e. refuses p 7 _ _ (omega arith))
-      (λ e. record { near = λ z. h _; none = λ z k. other (Looked i) refl })
-
-  after-roots : (i : ℕ) → Far (Roots i) (afterRoots (s .rec .m) (s .rec .r) i)
-  unfolding afterRoots
-  after-roots i c =
-      split (λ (p : Phase). s .rec .m + 0 ≤ suc (far (s .rec .m) c p)) _ _ _ (λ e. omega arith)
-      (λ e. omega arith)
-
-  looks : (i k : ℕ) → k ≤ s .rec .m → Nears s (Scan i k) (scanStep s i k)
-  unfolding scanStep
-  looks i k h =
-      split (Nears s (Scan i k)) _ _ _ (λ e. refuses (Scan i k) 14 _ _ (omega arith)) (λ e.
-      split (Nears s (Scan i k)) _ _ _
-      (λ e. record { near = λ z. omega arith; none = λ z n. other (Looked i) refl }) (λ e.
-      split (Nears s (Scan i k)) _ _ _
-      (λ e. let q = eqb-true k 1 e in
-      record { near = λ z. omega arith; none = λ z n. other (Looked i) refl })
-      (λ e. record { near = λ z. omega arith; none = λ z n. other (Looked i) refl })))
+  in-append : (p : Phase) (i : ℕ) → p ≡ Append i
+      → far (s .rec .m) (s .colour) p ≡ dark (s .rec .m - i) i (s .colour)
+  in-append p i e = rw e (far-dark (s .rec .m) i (s .colour))
 
   -- Append: black is made white, and white is 0 steps away
-  whitens : (i : ℕ) → i < s .rec .m
-      → Nears s (Append i) (did (Whitened i) (withColour s i white) (afterAppend (s .rec) i))
+  whitens : (p : Phase) (i : ℕ) → p ≡ Append i → i < s .rec .m
+      → Brings s p (did (Whitened i) (withColour s i white) (afterAppend (s .rec) i))
   unfolding afterAppend
-  whitens i h =
-      split (λ (x : Record). Nears s (Append i) (did (Whitened i) (withColour s i white) x)) _ _ _
+  whitens p i q h =
+      split (λ (x : Record). Brings s p (did (Whitened i) (withColour s i white) x)) _ _ _
       (λ e. record {
-        near = λ z. omega (arith, dark-most (s .rec .m - i) i (s .colour));
+        near = λ z.
+            let y = dark-most (s .rec .m - i) i (s .colour) in
+            omega (arith, in-append p i q, quiet-roots (s .rec .m) 0, y);
         none = λ z k. other (Whitened i) refl;
       })
       (λ e. record {
         near = λ z.
             let y = dark-set (s .rec .m - (i + 1)) (i + 1) i white (s .colour) (omega arith) in
-            omega (arith, dark-next (s .rec .m) i (s .colour) h, y);
+            let there = far-dark (s .rec .m) (i + 1) (set (s .colour) i white) in
+            let next = dark-next (s .rec .m) i (s .colour) h in
+            omega (arith, in-append p i q, there, next, y);
         none = λ z k. other (Whitened i) refl;
       })
 
-  whites : (i : ℕ) → eqb (colourOf s i) white ≡ true → Nears s (Append i) (appendWhite s i)
-  unfolding appendWhite
-  whites i w =
+  appends : (p : Phase) (i : ℕ) → p ≡ Append i → eqb (colourOf s i) white ≡ true
+      → Brings s p
+      (did (Appended i) (append s i) (afterAppend (moreFree (withLast (s .rec) i)) i))
+  appends p i q w =
       let none = dark-white (s .rec .m - i) i (s .colour) w in
-      split (Nears s (Append i)) _ _ _ (λ e. refuses (Append i) 15 _ _ (omega arith)) (λ e.
-      split (Nears s (Append i)) _ _ _ (λ e. refuses (Append i) 15 _ _ (omega arith)) (λ e.
-      record { near = λ z. omega (arith, none); none = λ z k. absurd (omega (arith, none)) }))
+      record {
+        near = λ z. omega (arith, in-append p i q, none);
+        none = λ z k. absurd (omega (arith, in-append p i q, none));
+      }
 
-  appends : (i : ℕ) → i < s .rec .m → Nears s (Append i) (appendStep s i)
-  unfolding appendStep
-  appends i h =
-      split (Nears s (Append i)) _ _ _ (λ e. whitens i h) (λ e.
-      split (Nears s (Append i)) _ _ _ (λ e. whites i e) (λ e.
-      split (Nears s (Append i)) _ _ _ (λ e. refuses (Append i) 14 _ _ (omega arith))
-      (λ e. refuses (Append i) 15 _ _ (omega arith))))
-
-  phases : (p : Phase) → InRange (s .rec .m) (s .rec .r) p → Nears s p (phaseStep s p)
-  unfolding phaseStep blackStep
-  phases (Roots i) h = shades (Roots i) _ i (after-roots i)
-  phases (Scan i k) h = looks i k (h .1)
-  phases (Left i) h = reads (Left i) (ShadeLeft i _) i _ _ (λ c. omega arith)
-  phases (ShadeLeft i n) h = shades (ShadeLeft i n) (Right i) n (λ c. omega arith)
-  phases (Right i) h = reads (Right i) (ShadeRight i _) i _ _ (λ c. omega arith)
-  phases (ShadeRight i n) h = shades (ShadeRight i n) (Black i) n (λ c. omega arith)
-  phases (Black i) h =
-      record { near = λ z. omega arith; none = λ z k. other (Blackened i) refl }
-  phases (Append i) h = appends i (h .0)
-
-  pub nears : Nears s (s .rec .phase) (step collecting s)
-  unfolding collect unless
+  pub nears : Brings s (s .rec .phase) (step collecting s)
   nears =
-      rw step-collecting (split (Nears s (s .rec .phase)) _ _ _
-      (λ e. phases _ (inside _ _ (s .rec) (sym (eqb-true _ _ e))))
-      (λ e. record {
-        near = λ z. absurd (eqb-false (check s) 0 e z);
-        none = λ z. absurd (eqb-false (check s) 0 e z);
-      }))
+      rw step-collecting (collect-comes s (Brings s (s .rec .phase)) record {
+        stays = λ a t. record {
+          near = λ z. absurd (omega (arith, t .1));
+          none = λ z. absurd (omega (arith, t .1));
+        };
+        shades = λ n p h k. record {
+          near = λ z. before _ p _ k;
+          none = λ z l. other (Shaded n) refl;
+        };
+        looks = λ i p h k. record {
+          near = λ z. before _ p _ k;
+          none = λ z l. other (Looked i) refl;
+        };
+        marks = λ i k. record { near = λ z. before _ _ _ k; none = λ z l. other (Looked i) refl };
+        blackens = λ i h k. record {
+          near = λ z. before _ _ _ k;
+          none = λ z l. other (Blackened i) refl;
+        };
+        whitens = λ i e h. whitens _ i e h;
+        appends = λ i e l h w. appends _ i e w;
+      })

@@ -7,13 +7,13 @@ use lib.ListN.{length, getD}
 use lib.Dec.{eqb}
 use Rattle.base.specs.Choice.{pick}
 use Rattle.rules.specs.Table.{State, white}
+use Rattle.rules.specs.Phases.{appendTag, tagOf, position}
+use Rattle.rules.specs.Facts.{quiet}
 use Rattle.rules.specs.Steps.{step, collecting, codeOf, detailOf}
 use Rattle.rules.specs.Schedules.{Followed, followed}
 use Rattle.rules.specs.Changes.{changes}
 use Rattle.rules.specs.declared.Answer.{Answer}
 use Rattle.rules.specs.declared.Phase.{Phase}
-use Rattle.rules.specs.declared.Phase.the-variants.{Roots, Scan, Left, ShadeLeft, Right}
-use Rattle.rules.specs.declared.Phase.the-variants.{ShadeRight, Black, Append}
 use Rattle.freed.specs.Freed.{appendedBy}
 
 -- the run, how many colours were changed, and the nodes that were appended
@@ -43,27 +43,9 @@ unfoldable pub dark : ℕ → ℕ → List ℕ → ℕ
 dark zero i c = 0
 dark (suc n) i c = pick (eqb (getD c i 0) white) 0 (suc (dark n (i + 1) c))
 
--- so many steps, at least, come before the first of Append; m is M
-abbrev pub quiet : ℕ → Phase → ℕ
-quiet m (Roots i) = m
-quiet m (Scan i k) = k
-quiet m (Left i) = m
-quiet m (ShadeLeft i n) = m
-quiet m (Right i) = m
-quiet m (ShadeRight i n) = m
-quiet m (Black i) = m
-quiet m (Append i) = 0
-
--- and in Append so many come before the first that can append a node
-abbrev pub darkIn : ℕ → List ℕ → Phase → ℕ
-darkIn m c (Roots i) = 0
-darkIn m c (Scan i k) = 0
-darkIn m c (Left i) = 0
-darkIn m c (ShadeLeft i n) = 0
-darkIn m c (Right i) = 0
-darkIn m c (ShadeRight i n) = 0
-darkIn m c (Black i) = 0
-darkIn m c (Append i) = dark (m - i) i c
+-- in Append so many steps come before the first that can append a node; m is M
+unfoldable pub darkIn : ℕ → List ℕ → Phase → ℕ
+darkIn m c p = pick (eqb (tagOf p) appendTag) (dark (m - position p) (position p) c) 0
 
 -- so many steps, at least, append nothing
 abbrev pub far : ℕ → List ℕ → Phase → ℕ

@@ -10,7 +10,8 @@ ghost use lib.ListN.{length, take, drop};
 ghost use Rattle.rules.specs.Table.{state};
 ghost use Rattle.freed.specs.Freed.{isAppended, appendedBy, roomOf, runIn, changesIn};
 ghost use Rattle.freed.specs.Freed.{appendedIn, noted, freed};
-ghost use Rattle.freed.specs.Gathers.{gathered, gather, dark, quiet, far, Turn};
+ghost use Rattle.rules.specs.Facts.{quiet};
+ghost use Rattle.freed.specs.Gathers.{gathered, gather, dark, far, Turn};
 ghost use Rattle.base.specs.Lent.{was, is};
 ghost use Rattle.rules.specs.Lent.{given};
 
@@ -48,16 +49,14 @@ fn quiet(x: Record) -> u16
     ensures { λ n. ⌜ n ≡ quiet (x .m) (x .phase) ⌝ }
 {
     let phase = x.phase;
-    match phase {
-        Phase::Roots(_) => x.m,
-        Phase::Scan(_, k) => k,
-        Phase::Left(_) => x.m,
-        Phase::ShadeLeft(_, _) => x.m,
-        Phase::Right(_) => x.m,
-        Phase::ShadeRight(_, _) => x.m,
-        Phase::Black(_) => x.m,
-        Phase::Append(_) => 0,
+    let tag = rules::tag(phase);
+    if tag == rules::SCAN_TAG {
+        return rules::second(phase);
     }
+    if tag == rules::APPEND_TAG {
+        return 0;
+    }
+    x.m
 }
 
 // How many colours from i on, in a row and at most most, are not white.

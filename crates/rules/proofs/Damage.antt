@@ -1,27 +1,23 @@
 -- What a step answers means what Damage says: each test of the definitions is the fact that its
 -- refusal tells. So what is done has no detail.
 use Prim.Native.Nat.{ℕ, zero, suc, _+_, _≤_, _<_}
-use mathlib.Core.Bool.{Bool, true, false, _||_}
-use mathlib.Core.Path.{_≡_, refl, sym, ap}
+use mathlib.Core.Bool.{true}
+use mathlib.Core.Path.{_≡_, refl, sym}
 use mathlib.Core.List.{List, [], _∷_}
 use mathlib.Core.Logic.{_≢_, _⊎_, inl, inr}
-use native.Mathlib.Decide.{decLt}
 use native.Mathlib.Omega.{arith}
-use lib.ListN.{length, getD, List·getD-eq-default}
-use lib.Dec.{ltb, leb, eqb}
-use borrow.Author.Tests.{ltb-true, ltb-false, leb-true, leb-false, eqb-true, eqb-false}
+use lib.Dec.{leb, eqb}
+use borrow.Author.Tests.{ltb-true, leb-true, eqb-true, eqb-false}
 use Rattle.base.specs.Choice.{every, first}
-use Rattle.base.proofs.Tests.{split, each, facts, zeros}
-use Rattle.rules.specs.Table.{State, sides, Outcome, unless, FREE, left, right, edgeOf}
-use Rattle.rules.specs.Table.{edge, white, gray, black, badEdge}
-use Rattle.rules.specs.Check.{sizeOk, checkOf, check}
+use Rattle.base.proofs.Tests.{split, each, zeros}
+use Rattle.rules.specs.Table.{State, Outcome, unless, FREE, left, edge, badEdge}
+use Rattle.rules.specs.Check.{check}
 use Rattle.rules.specs.Places.{placeCode, walkFrom, walk, arrive}
 use Rattle.rules.specs.Editor.{sideCode, owedCode, look, depart, linkTo, link, pay}
 use Rattle.rules.specs.Editor.{shadeOwed, badFree, takeNext, takeFirst, take}
-use Rattle.rules.specs.Collector.{shadeStep, scanStep, readStep, blackStep, appendWhite}
-use Rattle.rules.specs.Collector.{appendStep, phaseStep, collect}
+use Rattle.rules.specs.Collector.{collect}
 use Rattle.rules.specs.Steps.{step, codeOf, detailOf}
-use Rattle.rules.specs.Damage.{Bad, BadFree, Means, done, bad-edge, bad-free, bad-colour}
+use Rattle.rules.specs.Damage.{BadFree, Means, done, bad-edge, bad-free, bad-colour}
 use Rattle.rules.specs.Damage.{gray-met, root-met, last-met, other, Damage-meant}
 use Rattle.rules.specs.declared.Place.{Place}
 use Rattle.rules.specs.declared.Step.{Step}
@@ -31,22 +27,9 @@ use Rattle.rules.specs.declared.Walk.{Walk}
 use Rattle.rules.specs.declared.Walk.the-variants.{At, Damaged}
 use Rattle.rules.specs.declared.Owed.{Owed}
 use Rattle.rules.specs.declared.Owed.the-variants.{Nothing, Node}
-use Rattle.rules.specs.declared.Phase.{Phase}
-use Rattle.rules.specs.declared.Phase.the-variants.{Roots, Scan, Left, ShadeLeft, Right}
-use Rattle.rules.specs.declared.Phase.the-variants.{ShadeRight, Black, Append}
-use Rattle.rules.proofs.Checked.{passes}
-
--- a code of those that are judged before the table is read
-abbrev Early : ℕ → Type 0
-Early code = (code ≤ 10) × (code ≢ 7)
-
-check-early : (s : State) → Early (check s)
-unfolding checkOf
-check-early s =
-    split Early _ _ _
-    (λ p. split Early _ _ _ (λ q. (omega arith, λ e. omega arith))
-    (λ q. (omega arith, λ e. omega arith)))
-    (λ p. (omega arith, λ e. omega arith))
+use Rattle.rules.proofs.Checked.{m-low}
+use Rattle.rules.proofs.Refusals.{Early, check-early, either, damaged}
+use Rattle.rules.proofs.PhaseSteps.{collect-comes}
 
 place-early : (E r : ℕ) (p : Place) → Early (placeCode E r p)
 unfolding placeCode
@@ -74,31 +57,9 @@ first-more : (c : ℕ) (cs : List ℕ) → Early c → Early (first cs) → Earl
 unfolding first
 first-more c cs p q = split Early _ _ _ (λ a. q) (λ a. p)
 
-either : (a b : Bool) → (a || b) ≡ true → (a ≡ true) ⊎ (b ≡ true)
-either true b h = inl refl
-either false b h = inr h
-
--- a colour that is neither black nor white, and is one
-is-gray : (c : ℕ) → eqb c black ≡ false → eqb c white ≡ false → ltb black c ≡ false → c ≡ gray
-is-gray c p q r =
-    omega (arith, eqb-false c black p, eqb-false c white q, ltb-false black c r)
-
--- an edge on a side that the table has not is 0
-no-side : (es : List (List ℕ)) (side n : ℕ) → length es ≤ side → edgeOf es side n ≡ 0
-unfolding edgeOf
-no-side es side n h = ap (λ (l : List ℕ). getD l n 0) (List·getD-eq-default es [] {n = side} h)
-
 module _ (s : State) where
   abbrev Good : Outcome → Type 0
   Good o = Means s (o .answer)
-
-  is-bad : (e : ℕ) → badEdge (s .rec .m) e ≡ true → Bad s e
-  unfolding badEdge
-  is-bad e h = go (either _ _ h)
-    where
-      go : (leb (s .rec .m) e ≡ true) ⊎ (eqb e FREE ≡ true) → Bad s e
-      go (inl a) = inl (leb-true _ _ a)
-      go (inr a) = inr (eqb-true _ _ a)
 
   is-bad-free : (e : ℕ) → badFree (s .rec .m) (s .rec .r) e ≡ true → BadFree s e
   unfolding badFree
@@ -116,24 +77,6 @@ module _ (s : State) where
 
   -- where code 1 is not given
   module _ (h : check s ≡ 0) where
-    low : 3 ≤ s .rec .m
-    unfolding sizeOk
-    low = let w = each _ (passes _ _ (s .rec) (sym h) .0) in omega facts
-
-    on-side : (side n : ℕ) → Bad s (edge s side n) → side < sides s
-    on-side side n b = go (decLt side (sides s)) b
-      where
-        go : Dec (side < sides s) → Bad s (edge s side n) → side < sides s
-        go (yes l) b = l
-        go (no l) (inl a) =
-            absurd (omega (arith, low, a, no-side (s .edges) side n (omega arith)))
-        go (no l) (inr a) =
-            absurd (omega (arith, a, no-side (s .edges) side n (omega arith)))
-
-    damaged : (side n : ℕ) → badEdge (s .rec .m) (edge s side n) ≡ true
-        → Means s (Refused 7 n side)
-    damaged side n q = let b = is-bad _ q in bad-edge (on-side side n b) b
-
     -- where a walk ends, and what it met there
     abbrev Fits : Walk → Type 0
     Fits (At n) = Unit {0}
@@ -149,7 +92,7 @@ module _ (s : State) where
         → Good (arrive s w go)
     unfolding arrive
     arrives (At n) f go p = p n
-    arrives (Damaged n side) f go p = damaged side n f
+    arrives (Damaged n side) f go p = damaged s (m-low _ _ (s .rec) (sym h)) side n f
 
     way : (p : Place) (go : ℕ → Outcome) → ((n : ℕ) → Good (go n)) → Good (arrive s (walk s p) go)
     way p go = arrives (walk s p) (walks _ _ _ _) go
@@ -165,40 +108,6 @@ module _ (s : State) where
     pays Nothing = other {code = 6} (omega arith) (λ e. omega arith) (λ e. omega arith)
     pays (Node n) = split Good _ _ _ (λ q. bad-colour (ltb-true _ _ q)) (λ q. done refl refl)
 
-    shades : (n : ℕ) (then : Phase) → Good (shadeStep s n then)
-    unfolding shadeStep
-    shades n then = split Good _ _ _ (λ q. bad-colour (ltb-true _ _ q)) (λ q. done refl refl)
-
-    reads : (i side : ℕ) (then : Phase) → Good (readStep s i side (edge s side i) then)
-    unfolding readStep
-    reads i side then = split Good _ _ _ (λ q. damaged side i q) (λ q. done refl refl)
-
-    appends : (i : ℕ) → s .rec .phase ≡ Append i → Good (appendStep s i)
-    unfolding appendStep appendWhite
-    appends i p =
-        split Good _ _ _ (λ a. done refl refl)
-        (λ a. split Good _ _ _
-        (λ w. split Good _ _ _ (λ q. root-met p (eqb-true _ _ w) (leb-true _ _ q))
-        (λ q. split Good _ _ _
-        (λ l. last-met p (eqb-true _ _ w) (leb-false _ _ q) (eqb-true _ _ l))
-        (λ l. done refl refl)))
-        (λ w. split Good _ _ _ (λ q. bad-colour (ltb-true _ _ q))
-        (λ q. gray-met p (is-gray _ a w q))))
-
-    phases : (p : Phase) → s .rec .phase ≡ p → Good (phaseStep s p)
-    unfolding phaseStep scanStep blackStep
-    phases (Roots i) e = shades i _
-    phases (Scan i k) e =
-        split Good _ _ _ (λ q. bad-colour (ltb-true _ _ q))
-        (λ q. split Good _ _ _ (λ a. done refl refl)
-        (λ a. split Good _ _ _ (λ b. done refl refl) (λ b. done refl refl)))
-    phases (Left i) e = reads i left _
-    phases (ShadeLeft i n) e = shades n _
-    phases (Right i) e = reads i right _
-    phases (ShadeRight i n) e = shades n _
-    phases (Black i) e = done refl refl
-    phases (Append i) e = appends i e
-
     takes : (side n : ℕ) → Good (takeFirst s side (edge s left FREE) n)
     unfolding takeFirst takeNext
     takes side n =
@@ -209,6 +118,17 @@ module _ (s : State) where
         (λ b. split Good _ _ _ (λ c. bad-colour (ltb-true _ _ c))
         (λ c. split Good _ _ _ (λ d. done refl refl)
         (λ d. split Good _ _ _ (λ k. bad-colour (ltb-true _ _ k)) (λ k. done refl refl))))))
+
+  collects : Good (collect s)
+  collects = collect-comes s Good record {
+    stays = λ a t. t .0;
+    shades = λ n p h k. done refl refl;
+    looks = λ i p h k. done refl refl;
+    marks = λ i k. done refl refl;
+    blackens = λ i h k. done refl refl;
+    whitens = λ i e h. done refl refl;
+    appends = λ i e l h w. done refl refl;
+  }
 
   -- the codes that need no array's content, in order
   early : (cs : List ℕ) (o : Outcome) → Early (first cs) → (check s ≡ 0 → Good o)
@@ -223,7 +143,7 @@ module _ (s : State) where
       other (e .0) (λ q. omega (arith, zeros _ (sym q) .1 .0)) (e .1)
 
 pub damage-meant : Damage-meant
-unfolding step take link linkTo shadeOwed collect look
+unfolding step take link linkTo shadeOwed look
 damage-meant c s =
     split (Good s) _ _ _
     (λ k. early s _ _
@@ -238,7 +158,7 @@ damage-meant c s =
     (λ k. split (Good s) _ _ _
     (λ k. judged s _ _ (check-early s) (λ h. pays s h _))
     (λ k. split (Good s) _ _ _
-    (λ k. judged s _ _ (check-early s) (λ h. phases s h _ refl))
+    (λ k. collects s)
     (λ k. split (Good s) _ _ _
     (λ k. early s _ _ (first-more _ _ (place-early _ _ _) first-none)
     (λ h. way s h _ _ (λ n. done refl refl)))

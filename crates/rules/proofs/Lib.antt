@@ -1,6 +1,7 @@
 pub mod Sizes
 pub mod Phases
 pub mod Checked
+pub mod Refusals
 pub mod PhaseSteps
 pub mod Laws
 pub mod Walks

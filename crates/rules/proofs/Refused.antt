@@ -47,13 +47,13 @@ module _ (s : State) where
 
   collects : Stays (collect s)
   collects = collect-comes s Stays record {
-    stays = λ a. refused;
-    shades = λ n p h. done;
-    looks = λ i p h. done;
-    marks = λ i. done;
-    blackens = λ i h. done;
-    whitens = λ i h. done;
-    appends = λ i l h. done;
+    stays = λ a t. refused;
+    shades = λ n p h k. done;
+    looks = λ i p h k. done;
+    marks = λ i k. done;
+    blackens = λ i h k. done;
+    whitens = λ i e h. done;
+    appends = λ i e l h w. done;
   }
 
   takes : (side f n : ℕ) → Stays (takeFirst s side f n)

@@ -120,13 +120,13 @@ module _ (s : State) (n : ℕ) (some : 1 ≤ n) where
   collected : Few (collect s)
   unfolding append withEdge cleared
   collected = collect-comes s Few record {
-    stays = λ a. none;
-    shades = λ i p h. shaded i;
-    looks = λ i p h. none;
-    marks = λ i. none;
-    blackens = λ i h. one i 2;
-    whitens = λ i h. one i 0;
-    appends = λ i l h. none;
+    stays = λ a t. none;
+    shades = λ i p h k. shaded i;
+    looks = λ i p h k. none;
+    marks = λ i k. none;
+    blackens = λ i h k. one i 2;
+    whitens = λ i e h. one i 0;
+    appends = λ i e l h w. none;
   }
 
   takes : 2 ≤ n → (side f i : ℕ) → Few (takeFirst s side f i)

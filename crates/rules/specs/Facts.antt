@@ -3,9 +3,11 @@
 use Prim.Native.Nat.{ℕ, zero, suc, _+_, _≤_, _<_}
 use mathlib.Core.Path.{_≡_}
 use mathlib.Core.Logic.{_≢_}
-use mathlib.Core.Bool.{true}
+use mathlib.Core.Bool.{true, false}
 use Rattle.rules.specs.Table.{mostNodes, mostSlots}
-use Rattle.rules.specs.Phases.{tagOf, position, second, hasSecond}
+use lib.Dec.{eqb}
+use Rattle.base.specs.Choice.{pick}
+use Rattle.rules.specs.Phases.{scanTag, appendTag, tagOf, position, second, hasSecond}
 use Rattle.rules.specs.declared.Record.{Record}
 use Rattle.rules.specs.declared.Phase.{Phase}
 use Rattle.rules.specs.declared.Owed.{Owed}
@@ -30,6 +32,14 @@ Limited m (suc (suc tag)) k = (hasSecond (suc (suc tag)) ≡ true) → (k ≢ 1)
 abbrev pub InRange : ℕ → ℕ → Phase → Type 0
 InRange m r p =
     Inside m r (tagOf p) (position p) × (second p ≤ m) × Limited m (tagOf p) (second p)
+
+-- so many steps, at least, come before the first of Append; m is M
+unfoldable pub quiet : ℕ → Phase → ℕ
+quiet m p = pick (eqb (tagOf p) scanTag) (second p) (pick (eqb (tagOf p) appendTag) 0 m)
+
+-- a step leads from q, which is not Append, to p: Append is nearer by one step at most
+abbrev pub Nears : ℕ → Phase → Phase → Type 0
+Nears m q p = (eqb (tagOf q) appendTag ≡ false) × (quiet m q ≤ suc (quiet m p))
 
 -- nothing, or a node of the table
 abbrev pub Owable : ℕ → Owed → Type 0

@@ -3,7 +3,7 @@
 use Rattle.base.specs.Choice.{pick}
 use Prim.Native.Nat.{ℕ}
 use mathlib.Core.Bool.{Bool, _||_}
-use lib.Dec.{leb, eqb}
+use lib.Dec.{eqb}
 use Rattle.rules.specs.declared.Phase.{Phase}
 use Rattle.rules.specs.declared.Phase.the-variants.{Roots, Scan, Left, ShadeLeft, Right}
 use Rattle.rules.specs.declared.Phase.the-variants.{ShadeRight, Black, Append}
@@ -72,7 +72,7 @@ second (Append i) = 0
 
 -- the phases that have a second number
 abbrev pub hasSecond : ℕ → Bool
-hasSecond tag = eqb tag scanTag || leb shadeLeftTag tag
+hasSecond tag = eqb tag scanTag || (eqb tag shadeLeftTag || eqb tag shadeRightTag)
 
 -- the phase of three numbers
 unfoldable pub phaseOf : ℕ → ℕ → ℕ → Phase

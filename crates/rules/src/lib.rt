@@ -44,7 +44,7 @@ const MOST_CYCLES: u32 = 4294967295;
 // [C 2] The number of each phase, and the largest of them.
 const ROOTS_TAG: u32 = 0;
 
-const SCAN_TAG: u32 = 1;
+pub const SCAN_TAG: u32 = 1;
 
 const LEFT_TAG: u32 = 2;
 
@@ -52,7 +52,7 @@ const RIGHT_TAG: u32 = 3;
 
 const BLACK_TAG: u32 = 4;
 
-const APPEND_TAG: u32 = 5;
+pub const APPEND_TAG: u32 = 5;
 
 const SHADE_LEFT_TAG: u32 = 6;
 
@@ -243,7 +243,10 @@ pub fn has_second(tag: u32) -> bool
     if tag == SCAN_TAG {
         return true;
     }
-    SHADE_LEFT_TAG <= tag
+    if tag == SHADE_LEFT_TAG {
+        return true;
+    }
+    tag == SHADE_RIGHT_TAG
 }
 
 // The phase of three numbers.

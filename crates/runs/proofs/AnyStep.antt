@@ -4,12 +4,10 @@ use Prim.Native.Nat.{ℕ}
 use mathlib.Core.Bool.{Bool, true, false}
 use mathlib.Core.Path.{_≡_, refl, sym, ap}
 use mathlib.Core.Option.{none}
-use mathlib.Core.List.{[], _∷_}
 use borrow.Author.Tests.{eqb-true}
-use Rattle.base.specs.Choice.{pick, first}
-use Rattle.base.proofs.Tests.{every-here, every-skip, every-last, split}
+use Rattle.base.specs.Choice.{pick}
+use Rattle.base.proofs.Tests.{every-here, every-skip, every-last}
 use Rattle.rules.specs.Table.{State, Outcome}
-use Rattle.rules.specs.Check.{check}
 use Rattle.rules.specs.Collector.{collect}
 use Rattle.rules.specs.Steps.{step, codeOf}
 use Rattle.rules.specs.declared.Step.{Step}
@@ -19,17 +17,15 @@ use Rattle.theory.proofs.Keep.{keep-editor}
 use Rattle.theory.proofs.FreeCount.{count-editor}
 use Rattle.runs.specs.Runs.{after, collector, kind, firstAppend, lastAppend, completes, marks}
 use Rattle.runs.specs.Runs.{Count, going, closing, told}
-use Rattle.runs.specs.Demand.{Allowed}
-use Rattle.runs.proofs.Picks.{if-no}
-use Rattle.runs.proofs.Codes.{allowed, allowed-first}
 use Rattle.runs.proofs.Tables.{rows-kept}
 use Rattle.runs.proofs.Bill.{bill-edit}
-use Rattle.runs.proofs.Sound.{abs, top, Sound, sizes, Ready, ready}
-use Rattle.runs.proofs.Simulates.{act, named, counts, Ticked, on, over, Simulates}
+use Rattle.runs.proofs.Ready.{abs, top, sizes}
+use Rattle.runs.proofs.Sound.{Sound, ready}
+use Rattle.runs.proofs.Answers.{act, named, counts, Ticked, on, over}
+use Rattle.runs.proofs.Simulates.{Simulates}
 use Rattle.runs.proofs.WorkStep.{collect-made, sound-made}
-use Rattle.runs.proofs.Edited.{Edited, refused, made-there}
-use Rattle.runs.proofs.LinkStep.{look-edited, link-edited}
-use Rattle.runs.proofs.TakeStep.{shade-edited, take-edited}
+use Rattle.runs.proofs.Edited.{Edited, made-there}
+use Rattle.runs.proofs.EditStep.{edits-is}
 
 pub record Collected (E : ℕ) (c : Step) (s : State) (tk : Tick) : Type 0 where
   pub kind : collector c ≡ true
@@ -51,21 +47,6 @@ pub data Stepped (E : ℕ) (c : Step) (s : State) : Type 0 where
 collects-is : (c : Step) (s : State) → collector c ≡ true → step c s ≡ collect s
 unfolding step pick
 collects-is c s h = rw (eqb-true (c .kind) 3 h) refl
-
-pub edits-is : {E : ℕ} (c : Step) (s : State) {ph : S.Phase} → Ready E s ph → collector c ≡ false
-    → Edited E s ph (step c s)
-unfolding step
-edits-is {E} c s {ph} g h =
-    split (Edited E s ph) _ _ _ (λ a. take-edited g _ _)
-    (λ a. split (Edited E s ph) _ _ _ (λ a. link-edited g _ _ _)
-    (λ a. split (Edited E s ph) _ _ _ (λ a. shade-edited g)
-    (λ a. if-no (Edited E s ph) _ _ _ (sym h)
-    (split (Edited E s ph) _ _ _ (λ a. look-edited g _)
-    (λ a. refused (g .fits) _ 0 unreadable)))))
-  where
-    unreadable : Allowed (first (check s ∷ 10 ∷ []))
-    unreadable =
-        allowed-first (check s ∷ 10 ∷ []) (rw (← g .good) (allowed refl), (allowed refl, tt))
 
 pub stepped : {E : ℕ} (c : Step) (s : State) → Sound E s → Stepped E c s
 unfolding completes marks

@@ -1,6 +1,7 @@
 -- The collector is a machine whose steps are the theory's: so its counts are those of the run, a
 -- cycle takes at most B collector steps, and garbage is appended within 3 × B.
 use Prim.Native.Nat.{ℕ, suc, _+_, _*_, _≤_, _<_}
+use mathlib.Core.Bool.{true}
 use mathlib.Core.Path.{_≡_, refl, sym, ap, _∙_, subst, subst₂}
 use mathlib.Core.List.{List, [], _∷_}
 use native.Mathlib.Omega.{arith}
@@ -8,23 +9,21 @@ use Rattle.rules.specs.Table.{State, edge}
 use Rattle.rules.specs.Check.{bound}
 use Rattle.rules.specs.Steps.{step, run}
 use Rattle.rules.specs.declared.Step.{Step}
-use Rattle.rules.specs.declared.Answer.{Answer}
-use Rattle.rules.specs.declared.Answer.the-variants.{Started, Named, Linked, Taken, Shaded, Looked}
-use Rattle.rules.specs.declared.Answer.the-variants.{Blackened, Whitened, Appended, Counted}
-use Rattle.rules.specs.declared.Answer.the-variants.{Refused}
-use Rattle.theory.specs.Reach.{Garbage}
-use Rattle.theory.proofs.Steps.{appends, other, Tick, CStep, EStep}
+use Rattle.rules.specs.declared.Answer.the-variants.{Appended}
+use Rattle.theory.specs.Reach.{Reach, Slot, Garbage}
+use Rattle.theory.proofs.Steps.{Tick, CStep, EStep}
 use Rattle.theory.proofs.Invariant.{Sizes, Inv}
-use Rattle.runs.specs.Runs.{Some, now, later, after, collectorSteps, Completes, Appends}
-use Rattle.runs.specs.Runs.{Count, counted, told, count}
-use Rattle.runs.proofs.Sound.{abs, Sound, sizes, cycle-goes}
-use Rattle.runs.proofs.Simulates.{act, counts}
+use Rattle.runs.specs.Runs.{after, collector, collectorSteps, Completes}
+use Rattle.runs.specs.Runs.{Appends, Count, counted, told, count, runBy}
+use Rattle.runs.proofs.Ready.{abs, top, sizes}
+use Rattle.runs.proofs.Sound.{Sound, cycle-goes}
+use Rattle.runs.proofs.Answers.{act, counts, is-appended}
 use Rattle.runs.proofs.Edited.{made-there}
 use Rattle.runs.proofs.AnyStep as A
 use A.{Collected, stepped, sound-step}
 use Rattle.runs.proofs.Machine as M
 use M.{Machine, Stepped, goes-on, closes, edits, Runs, counted-on, counted-over, counted-not}
-use M.{carried-step, ends-soon, appended-soon}
+use M.{some-map, ends-soon, appended-soon, only-garbage, leaves-edges}
 
 abbrev machine : ℕ → Machine State
 machine E = record {
@@ -35,27 +34,10 @@ machine E = record {
   counts = λ s. counts (s .rec);
 }
 
-other≢appends : {x : ℕ} → other ≡ appends x → ⊥
-other≢appends q = let z : _≡_ {A = ℕ} 0 1 = cc in omega arith
-
--- only the answer Appended is an appending
-pub is-appended : (x : ℕ) (a : Answer) → act a ≡ appends x → a ≡ Appended x
-is-appended x (Started n) q = absurd (other≢appends q)
-is-appended x (Named n) q = absurd (other≢appends q)
-is-appended x (Linked n) q = absurd (other≢appends q)
-is-appended x (Taken n) q = absurd (other≢appends q)
-is-appended x (Shaded n) q = absurd (other≢appends q)
-is-appended x (Looked n) q = absurd (other≢appends q)
-is-appended x (Blackened n) q = absurd (other≢appends q)
-is-appended x (Whitened n) q = absurd (other≢appends q)
-is-appended x (Appended n) q = let z : n ≡ x = cc in ap Appended z
-is-appended x (Counted k) q = absurd (other≢appends q)
-is-appended x (Refused code n detail) q = absurd (other≢appends q)
-
-some-appended : {x : ℕ} {cs : List Step} {s : State}
-    → Some after (λ c s. act (step c s .answer) ≡ appends x) cs s → Appends x cs s
-some-appended {x} (now {c = c} {s = s} q) = now (is-appended x (step c s .answer) q)
-some-appended (later k) = later (some-appended k)
+run-is : (cs : List Step) (s : State) → run cs s ≡ runBy after cs s
+unfolding run
+run-is [] s = refl
+run-is (c ∷ cs) s = run-is cs (after c s)
 
 -- a sound state with these M and R
 record Held (E m r : ℕ) (s : State) : Type 0 where
@@ -84,7 +66,7 @@ module _ {E m r : ℕ} where
       go : A.Stepped E c s → Stepped (machine E) E m (suc (suc r)) c s
       go (A.goes-on e a k) = goes-on (k .kind) e (there k)
       go (A.closes e a k) = closes (k .kind) e (there k)
-      go (A.edits e h k) = edits h e (subst
+      go (A.edits e h k) = edits h e (k .appends) (subst
           (λ r. EStep E (suc (suc r)) (k .deed) (abs E s) (abs E (after c s))) (v .slots)
           (made-there k))
 
@@ -130,18 +112,14 @@ module _ {E m r : ℕ} where
 
   pub carried-run : (cs : List Step) (s : State) (n : Count) → Carried E m r n s
       → Carried E m r (count cs s n) (run cs s)
-  unfolding run
-  carried-run [] s n v = v
-  carried-run (c ∷ cs) s n v =
-      let k = carried-step (runs (held v)) c s n (record { sound = held v; counts = v .counts }) in
-      carried-run cs (after c s) (counted (told c s) c n)
-      (record {
+  carried-run cs s n v =
+      let k = M.carried-run (runs (held v)) cs s n record { sound = held v; counts = v .counts } in
+      rw (run-is cs s) record {
         sound = k .sound .sound;
         nodes = k .sound .nodes;
         slots = k .sound .slots;
-        counts =
-            k .counts;
-      })
+        counts = k .counts;
+      }
 
   pub ends-within : {n : Count} {s : State} → Carried E m r n s → (cs : List Step)
       → bound E m r ≤ n .since + collectorSteps cs → Completes cs s
@@ -153,7 +131,21 @@ module _ {E m r : ℕ} where
       → Garbage E (suc (suc r)) (edge s) x → (cs : List Step)
       → 3 * bound E m r ≤ collectorSteps cs → Appends x cs s
   appended-within {s = s} v x hx u cs l =
-      some-appended (appended-soon (runs (held v)) x hx cs s (held v) u l)
+      some-map (λ c s q. is-appended x (step c s .answer) q)
+      (appended-soon (runs (held v)) x hx cs s (held v) u l)
+
+module _ {E : ℕ} {s : State} (g : Sound E s) where
+  itself : Held E (s .rec .m) (s .rec .r) s
+  itself = record { sound = g; nodes = refl; slots = refl }
+
+  -- what a step appends, and what the collector leaves
+  pub appends-garbage : (c : Step) (x : ℕ) → step c s .answer ≡ Appended x
+      → Garbage E (top s) (edge s) x
+  appends-garbage c x q = only-garbage (runs itself) c s x itself (ap act q)
+
+  pub leaves : (c : Step) → collector c ≡ true → (side x : ℕ) → Reach E (Slot (top s)) (edge s) x
+      → edge (after c s) side x ≡ edge s side x
+  leaves c h side x a = leaves-edges (runs itself) c s itself h x side a
 
 -- a sound state stays so, with its M and R, whatever was counted before
 pub carried-from : {E : ℕ} (cs : List Step) (s : State) → Sound E s

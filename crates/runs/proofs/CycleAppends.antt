@@ -21,8 +21,9 @@ use Rattle.runs.specs.Runs.{after, kind}
 use Rattle.runs.specs.Demand.{RootReaches}
 use Rattle.runs.proofs.Tables.{reach-from}
 use Rattle.runs.proofs.Phases.{view, is-append}
-use Rattle.runs.proofs.Sound.{abs, Sound, sizes}
-use Rattle.runs.proofs.Simulates.{act}
+use Rattle.runs.proofs.Ready.{abs, sizes}
+use Rattle.runs.proofs.Sound.{Sound}
+use Rattle.runs.proofs.Answers.{act}
 use Rattle.runs.proofs.AnyStep.{Stepped, goes-on, closes, edits, stepped, sound-step}
 use Rattle.runs.proofs.Counting.{carried-from}
 use Rattle.runs.proofs.Cycles.{Reached, sound-reached, ToEnd, last, more, appended, rest-of}

@@ -1,6 +1,5 @@
--- A cycle that blackens b nodes takes at most b × (M + 2 × E + 1) + 2 × M + R + 2 collector steps,
--- whatever the editor does: each blackening costs a round of M looks, a step for each of the E
--- edges and its own; the roots, a last round and the appending come to the rest.
+-- A cycle takes at most what its marking costs by the nodes that it blackens (`cost`), and M
+-- collector steps more for the appending, whatever the editor does.
 use Prim.Native.Nat.{ℕ, suc, _+_, _*_, _≤_}
 use mathlib.Core.Bool.{Bool, true, false, true≢false}
 use mathlib.Core.Path.{_≡_, refl, sym, ap, _∙_}
@@ -17,7 +16,7 @@ use Rattle.theory.specs.Phase as K
 use Rattle.theory.proofs.Update.{Colours}
 use Rattle.runs.specs.Runs.{after, collectorSteps, kind, lastAppend, completes}
 use Rattle.runs.specs.Runs.{blackens, Count}
-use Rattle.runs.proofs.Bill.{Bill, of-roots, last-paid}
+use Rattle.runs.proofs.Bill.{cost, Bill, of-roots, last-paid}
 use Rattle.runs.proofs.Sound.{Sound}
 use Rattle.runs.proofs.AnyStep.{Stepped, goes-on, closes, edits, stepped, sound-step}
 use Rattle.runs.proofs.Machine.{one-more, no-more}
@@ -25,7 +24,7 @@ use Rattle.runs.proofs.Cycles.{Reached, sound-reached, ToEnd, last, mor
 
 -- the most that a cycle takes which blackens b nodes
 abbrev pub tight : ℕ → ℕ → ℕ → ℕ → ℕ
-tight E m r b = b * (m + 1 + 2 * E) + 2 * m + r + 2
+tight E m r b = cost E m r b + m
 
 at-last : {E : ℕ} (c : Step) (s : State) → Sound E s → completes c s ≡ true
     → lastAppend (s .rec .m) (kind E (s .rec .phase)) ≡ true

@@ -35,9 +35,8 @@ use Rattle.runs.specs.Runs.{kind, blackens}
 use Rattle.runs.specs.Demand.{Allowed}
 use Rattle.runs.proofs.Picks.{if-no}
 use Rattle.runs.proofs.Codes.{allowed, AllAllowed, allowed-first}
-use Rattle.runs.proofs.Sound.{owes, stateIn, abs, top, InLimits, Ready}
-use Rattle.runs.proofs.Simulates.{act, named, counts}
-use Rattle.runs.proofs.WorkStep.{good-edge}
+use Rattle.runs.proofs.Ready.{owes, stateIn, abs, top, InLimits, Ready, good-edge}
+use Rattle.runs.proofs.Answers.{act, named, counts}
 
 -- an editor's step leaves the collector's part of the record
 pub record Same (x y : Record) : Type 0 where

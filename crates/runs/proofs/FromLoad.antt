@@ -1,4 +1,4 @@
--- A table that Load accepts is sound: what is judged of its lists is the shape of a table.
+-- A table that Load accepts is started: what is judged of its lists is the shape of a table.
 use Prim.Native.Nat.{ℕ, zero, suc, _+_, _≤_, _<_}
 use mathlib.Core.Bool.{true}
 use mathlib.Core.Path.{_≡_, refl, sym, ap, ap₂, _∙_, subst}
@@ -10,9 +10,7 @@ use lib.ListN.{length, replicate, length-map}
 use lib.Dec.{eqb}
 use borrow.Author.Tests.{eqb-true}
 use Rattle.base.specs.Choice.{every}
-use Rattle.rules.specs.Table.{table, FREE, edgeOf}
-use Rattle.rules.specs.Records.{freshRecord}
-use Rattle.rules.specs.Fresh.{tabulate, allWhite}
+use Rattle.rules.specs.Table.{FREE, edgeOf}
 use Rattle.rules.specs.Steps.{codeOf}
 use Rattle.rules.specs.Load.{load}
 use Rattle.rules.specs.declared.Answer.{Answer}
@@ -21,15 +19,11 @@ use Rattle.theory.specs.Free.{Mem}
 use Rattle.theory.proofs.Reaches.{Named, Start, reach-ind}
 use Rattle.theory.proofs.Chains.{chain-inside}
 use Rattle.theory.proofs.Invariant.{Bare, Shape, Spare}
-use Rattle.theory.proofs.Keep.{inv-start}
 use Rattle.reach.specs.Judged.{Accepted, Judged, bad-size, bad-edge, bad-chain, shared, accepted}
 use Rattle.reach.proofs.Given.{Sizes, sizes, every-two, outside}
 use Rattle.reach.proofs.Judges.{load-judged, load-leaves}
-use Rattle.runs.specs.Runs.{begun}
 use Rattle.runs.specs.Start.{Served}
-use Rattle.runs.proofs.Bill.{of-roots}
-use Rattle.runs.proofs.Counting.{Carried}
-use Rattle.runs.proofs.Tabulate.{length-tabulate, all-zero}
+use Rattle.runs.proofs.Started.{opened, Started, started}
 
 -- lengths that are all m
 all-same : (m : ℕ) (ns : List ℕ) → every (map (λ n. eqb n m) ns) ≡ true → ns
@@ -94,39 +88,34 @@ module _ {E m r last : ℕ} {es : List (List ℕ)} (few : Served E) (q : length 
     free = record { list = a .free; chain = a .chain .chained .chain; end = a .end; spare = spare };
   }
 
-  load-starts : Carried E m r begun
-      (table es (tabulate allWhite m) (freshRecord m r last (length (a .free))))
-  load-starts = record {
-    sound = record {
-      rows = record {
-        count =
-            q;
-        lengths = all-same m (map length es) (z .rows)
-            ∙ ap (λ (k : ℕ). replicate k m) (length-map es length ∙ q);
-      };
-      fits = omega (arith, few, z .low, z .high, z .slots, z .room, length-tabulate allWhite m);
-      inv =
-          inv-start
-          (record { edges = omega arith; fixed = omega arith; room = omega (arith, z .room) })
-          load-shape (all-zero m);
-      bill = of-roots refl refl;
-      free = (a .free, a .chain .chained .chain, refl);
+  load-starts : Started E m r (opened m r es last (length (a .free)))
+  load-starts = started record {
+    few = few;
+    m-low = z .low;
+    m-high = z .high;
+    r-low = z .slots .0;
+    r-high = z .slots .1;
+    room = z .room;
+    rows = record {
+      count =
+          q;
+      lengths = all-same m (map length es) (z .rows)
+          ∙ ap (λ (k : ℕ). replicate k m) (length-map es length ∙ q);
     };
-    nodes = refl;
-    slots = refl;
-    counts = refl;
+    shape = load-shape;
+    free = (a .free, a .chain .chained .chain, refl);
   }
 
-pub load-carried : {E : ℕ} (m r : ℕ) (given edges : List (List ℕ)) (colours : List ℕ) → Served E
+pub load-started : {E : ℕ} (m r : ℕ) (given edges : List (List ℕ)) (colours : List ℕ) → Served E
     → length given ≡ E
     → codeOf (load m r given edges colours .answer) ≡ 0
-    → Carried E m r begun (load m r given edges colours .state)
-load-carried {E} m r given edges colours few q h =
+    → Started E m r (load m r given edges colours .state)
+load-started {E} m r given edges colours few q h =
     go (load m r given edges colours .answer) refl (load-judged m r given edges colours) h
   where
     go : (a : Answer) → load m r given edges colours .answer ≡ a → Judged m r given edges colours a
         → codeOf a ≡ 0
-        → Carried E m r begun (load m r given edges colours .state)
+        → Started E m r (load m r given edges colours .state)
     go _ e (accepted {last = last} p a) h =
         rw (load-leaves m r given edges colours .done last e (a .free) (a .chain))
         (load-starts few q (sizes m r given (map length edges) (length colours) p) a)

@@ -20,7 +20,7 @@ use S.{nothing, links, rest}
 use Rattle.theory.proofs.Shapes.{reached-inside}
 use Rattle.runs.proofs.Codes.{allowed, allowed-place, allowed-side, allowed-owed}
 use Rattle.runs.proofs.Tables.{EdgeMoved, edge-moved}
-use Rattle.runs.proofs.Sound.{owes, top, Ready, sizes}
+use Rattle.runs.proofs.Ready.{owes, top, Ready, sizes}
 use Rattle.runs.proofs.Edited.{some-same, Edited, same, refused, unless-edited, none-owed}
 use Rattle.runs.proofs.Edited.{walked, arrived}
 

@@ -57,7 +57,7 @@ view few (ShadeLeft i n) = shading {i = i} {j = 0} {n = n} record {
   then = Right i;
   here = refl;
   next = refl;
-  test = λ m r h k l. read-ok m r (ShadeLeft i n) (omega arith) h k l;
+  test = λ m r h k l. read-ok m r (ShadeLeft i n) (omega arith) refl h k l;
   step = λ s. refl;
 }
 view few (Right i) = reading {i = i} {j = 1} record {
@@ -72,7 +72,7 @@ view few (ShadeRight i n) = shading {i = i} {j = 1} {n = n} record {
   then = Black i;
   here = refl;
   next = ap (S.Working i) few;
-  test = λ m r h k l. read-ok m r (ShadeRight i n) (omega arith) h k l;
+  test = λ m r h k l. read-ok m r (ShadeRight i n) (omega arith) refl h k l;
   step = λ s. refl;
 }
 view few (Black i) = blackening i

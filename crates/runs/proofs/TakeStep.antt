@@ -30,8 +30,7 @@ use Rattle.theory.proofs.Facts.{owed-lies, first-lies, next-lies}
 use Rattle.runs.proofs.Picks.{if-yes, if-no}
 use Rattle.runs.proofs.Codes.{allowed, allowed-place, allowed-side, allowed-owed}
 use Rattle.runs.proofs.Tables.{rows-kept, shade-is, length-shade, EdgeMoved, edge-moved}
-use Rattle.runs.proofs.Sound.{owes, top, Ready, sizes}
-use Rattle.runs.proofs.ScanStep.{good-colour}
+use Rattle.runs.proofs.Ready.{owes, top, Ready, sizes, good-colour}
 use Rattle.runs.proofs.Edited.{Edited, same, refused, unless-edited, none-owed}
 use Rattle.runs.proofs.LinkStep.{moves, departed}
 
@@ -48,7 +47,7 @@ module _ {E : ℕ} {s : State} {ph : S.Phase} (g : Ready E s ph) where
   paid : (o : Owed) → owes (s .rec .owed) ≡ owes o → Edited E s ph (pay s o)
   unfolding pay
   paid Nothing q = refused (g .fits) 6 0 (allowed refl)
-  paid (Node t) q = if-no (Edited E s ph) _ _ _ (good-colour (g .fits) (g .inv .hues) t) record {
+  paid (Node t) q = if-no (Edited E s ph) _ _ _ (good-colour s (g .inv .hues) t) record {
     deed = pays t;
     made =
         rw q
@@ -184,9 +183,9 @@ module _ {E : ℕ} {s : State} {ph : S.Phase} (g : Ready E s ph) where
         (λ e. let f0 = eqb-false f 0 e in
         if-no (Edited E s ph) _ _ _ (good-free _ _ y (next-lies (g .inv) f0)
         (omega (arith, g .fits .m-low)))
-        (if-no (Edited E s ph) _ _ _ (good-colour (g .fits) (g .inv .hues) f)
+        (if-no (Edited E s ph) _ _ _ (good-colour s (g .inv .hues) f)
         (split (Edited E s ph) _ _ _ (λ z. took-last f0 (eqb-true y 0 z))
-        (λ z. if-no (Edited E s ph) _ _ _ (good-colour (g .fits) (g .inv .hues) y)
+        (λ z. if-no (Edited E s ph) _ _ _ (good-colour s (g .inv .hues) y)
         (took f0 (eqb-false y 0 z)))))))
 
   pub take-edited : (p : Place) (side : ℕ) → Edited E s ph (take p side s)

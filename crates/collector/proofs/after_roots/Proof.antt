@@ -12,12 +12,12 @@ returns : tie.Need-returns
 unfolding afterRoots
 returns c = search (tests, needs) depth 12
 
-add-t4 : tie.Need-add-t4
-add-t4 c = search needs
+add-next : tie.Need-add-next
+add-next c = search needs
 
 returns-2 : tie.Need-returns-2
 unfolding afterRoots
 returns-2 c = search (tests, needs) depth 12
 
 pub after-roots-spec : {M : Type 1} → statement M
-after-roots-spec = tie.close (tie.spec add-if1 returns add-t4 returns-2)
+after-roots-spec = tie.close (tie.spec add-if1 returns add-next returns-2)

@@ -65,7 +65,7 @@ returns-5 c = rw (c .before .p3 .given .1) (node-test _ _ (Left _) (omega arith)
 returns-6 : tie.Need-returns-6
 returns-6 c =
     rw (c .before .before .p4 .given .1)
-    (c .read-ok .ensures ∙ read-test _ _ (ShadeLeft _ _) (omega arith))
+    (c .read-ok .ensures ∙ read-test _ _ (ShadeLeft _ _) (omega arith) refl)
 
 returns-7 : tie.Need-returns-7
 returns-7 c = rw (c .before .p5 .given .1) (node-test _ _ (Right _) (omega arith) refl)
@@ -73,7 +73,7 @@ returns-7 c = rw (c .before .p5 .given .1) (node-test _ _ (Right _) (omega arith
 returns-8 : tie.Need-returns-8
 returns-8 c =
     rw (c .before .before .p6 .given .1)
-    (c .read-ok2 .ensures ∙ read-test _ _ (ShadeRight _ _) (omega arith))
+    (c .read-ok2 .ensures ∙ read-test _ _ (ShadeRight _ _) (omega arith) refl)
 
 returns-9 : tie.Need-returns-9
 returns-9 c = rw (c .before .p7 .given .1) (node-test _ _ (Black _) (omega arith) refl)
