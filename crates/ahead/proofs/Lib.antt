@@ -1,4 +1,3 @@
-pub mod Steady
 pub mod Strides
 pub mod Looks
 pub mod Visits

@@ -11,7 +11,7 @@ use Rattle.rules.specs.declared.Record.{Record}
 use Rattle.rules.specs.declared.Answer.{Answer}
 use Rattle.rules.specs.Table.{State, Outcome, state, mostNodes}
 use Rattle.rules.specs.Facts.{manySteps}
-use Rattle.rules.specs.Check.{sizeOk, freeOk, bound, cycleOk}
+use Rattle.rules.specs.Check.{sizeOk, freeOk, bound, cycleOk, inLimits}
 use Rattle.rules.specs.Collector.{phaseStep, collect}
 use Rattle.rules.specs.Steps.{step, collecting, codeOf}
 use Rattle.rules.specs.Schedules.{collects}
@@ -20,8 +20,8 @@ use Rattle.rules.proofs.Checked.{passes, good}
 use Rattle.rules.proofs.Sizes.{square}
 use Rattle.rules.proofs.Sums.{sum-done, most-collects}
 use Rattle.rules.proofs.Laws.{step-collecting, unless-done}
-use Rattle.ahead.specs.Leads.{more, inLimits, Passes, Room, Leads}
-use Rattle.ahead.proofs.Steady.{count, Kept, free-passes, kept, passes-again}
+use Rattle.ahead.specs.Leads.{more, Passes, Room, Leads}
+use Rattle.rules.proofs.Steady.{count, Kept, free-passes, kept, passes-again}
 
 -- M, and the lengths of the three slices, which are M
 pub record Sized (m ll rl cl : ℕ) : Type 0 where

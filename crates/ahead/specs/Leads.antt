@@ -1,13 +1,12 @@
 -- Many collector steps at once: what the inner functions of a batch promise one another.
 use Prim.Native.Nat.{ℕ, zero, suc, _+_, _≤_, _<_}
 use mathlib.Core.Path.{_≡_}
-use mathlib.Core.Bool.{Bool}
-use mathlib.Core.List.{List, [], _∷_}
+use mathlib.Core.List.{List}
 use lib.ListN.{getD}
 use lib.Dec.{eqb}
-use Rattle.base.specs.Choice.{pick, every}
+use Rattle.base.specs.Choice.{pick}
 use Rattle.rules.specs.Table.{State}
-use Rattle.rules.specs.Check.{freeOk, bound, cycleOk, check}
+use Rattle.rules.specs.Check.{bound, check}
 use Rattle.rules.specs.Steps.{step, collecting, codeOf}
 use Rattle.rules.specs.Schedules.{collects}
 use Rattle.rules.specs.Changes.{changesAll}
@@ -30,11 +29,6 @@ more (suc n) d a s =
     pick (eqb (codeOf (step collecting s .answer)) 0)
     (more n (d + 1) (step collecting s .answer) (step collecting s .state))
     (lasted d (step collecting s .answer) s)
-
--- the tests of code 2 that a step can break: how many are free, and what the cycle counts, b being
--- B
-unfoldable pub inLimits : Record → ℕ → Bool
-inLimits x b = every (freeOk (x .m) (x .r) (x .last) (x .free) ∷ cycleOk x b ∷ [])
 
 -- neither code 1 nor code 2
 pub record Passes (s : State) : Type 0 where

@@ -9,7 +9,7 @@ use Rattle.base.proofs.Tests.{pick-no, eq-no}
 use Rattle.rules.specs.declared.Record.{Record}
 use Rattle.rules.specs.declared.Answer.{Answer}
 use Rattle.rules.specs.Table.{State, Outcome, mostSlots, state, refused, refuse}
-use Rattle.rules.specs.Check.{bound, check}
+use Rattle.rules.specs.Check.{bound, inLimits, check}
 use Rattle.rules.specs.Collector.{phaseStep, collect}
 use Rattle.rules.specs.Steps.{step, collecting, codeOf}
 use Rattle.rules.specs.Facts.{Checked, InRange}
@@ -20,8 +20,8 @@ use Rattle.rules.proofs.Sums.{sum-refused, sum-none, most-one}
 use Rattle.rules.proofs.Checked.{good, inside}
 use Rattle.rules.proofs.Refused.{refused-stays}
 use Rattle.rules.proofs.Laws.{step-collecting, unless-refused}
-use Rattle.ahead.specs.Leads.{lasted, more, inLimits, Passes, Room, Leads}
-use Rattle.ahead.proofs.Steady.{count, Kept, kept, steps-below, passes-again, now-spoilt}
+use Rattle.ahead.specs.Leads.{lasted, more, Passes, Room, Leads}
+use Rattle.rules.proofs.Steady.{count, Kept, kept, steps-below, passes-again, now-spoilt}
 use Rattle.ahead.proofs.Strides.{step-is, done-on, sum-on, few}
 use Rattle.batch.specs.StrideAndStep.{StrideAndStep}
 

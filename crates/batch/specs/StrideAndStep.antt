@@ -3,12 +3,12 @@ use Prim.Native.Nat.{ℕ, suc, _+_, _≤_}
 use mathlib.Core.Path.{_≡_}
 use mathlib.Core.Bool.{true, false}
 use Rattle.rules.specs.Table.{State}
-use Rattle.rules.specs.Check.{check}
+use Rattle.rules.specs.Check.{inLimits, check}
 use Rattle.rules.specs.Steps.{codeOf}
 use Rattle.rules.specs.Schedules.{collects}
 use Rattle.rules.specs.Changes.{changesAll}
 use Rattle.rules.specs.declared.Answer.{Answer}
-use Rattle.ahead.specs.Leads.{lasted, more, inLimits, Passes}
+use Rattle.ahead.specs.Leads.{lasted, more, Passes}
 
 -- from s on d steps, and then one that answers a and leaves t, b being B; v colours are changed
 pub record StrideAndStep (b : ℕ) (s : State) (d v : ℕ) (a : Answer) (t : State) : Type 0 where

@@ -11,7 +11,7 @@ ghost use Rattle.rules.specs.Check.{bound};
 ghost use Rattle.rules.specs.Schedules.{schedule, collects};
 ghost use Rattle.rules.specs.Changes.{changesAll};
 ghost use Rattle.rules.specs.declared.Answer.the-variants.{Named};
-ghost use Rattle.ahead.specs.Leads.{lasted, more, inLimits, Passes, Room, Leads};
+ghost use Rattle.ahead.specs.Leads.{lasted, more, Passes, Room, Leads};
 ghost use Rattle.batch.specs.Last.{many, lastAnswer};
 ghost use Rattle.batch.specs.StrideAndStep.{StrideAndStep};
 ghost use Rattle.base.specs.Lent.{is};
@@ -94,18 +94,6 @@ fn ended(done: usize, n: usize, a: Answer) -> Answer
     a
 }
 
-// Whether the counts that a step can bring past their limits are within them, b being B.
-fn in_limits(x: Record, b: u32) -> bool
-    requires { ⌜ x .r ≤ mostSlots ⌝ }
-    requires { ⌜ x .r + 2 ≤ x .m ⌝ }
-    ensures { λ ok. ⌜ ok ≡ inLimits x b ⌝ }
-{
-    if !rules::free_ok(x.m, x.r, x.last, x.free) {
-        return false;
-    }
-    rules::cycle_ok(x, b)
-}
-
 // n steps, from a record that passes.
 pub fn all_steps(
     left: &mut [u16],
@@ -140,7 +128,7 @@ pub fn all_steps(
             };
         }
         done += 1;
-        if !in_limits(rec, b) {
+        if !rules::in_limits(rec, b) {
             return Many {
                 done,
                 answer: ended(done, n, answer),

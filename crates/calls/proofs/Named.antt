@@ -1,19 +1,24 @@
--- Which call a step's kind names.
+-- Which call a step's kind names; and what any step answers to a record that does not pass.
 use Prim.Native.Nat.{ℕ}
 use native.Mathlib.Omega.{arith}
 use lib.Dec.{eqb}
 use mathlib.Core.Path.{_≡_, refl, ap, _∙_}
-use mathlib.Core.List.{[], _∷_}
+use mathlib.Core.List.{List, [], _∷_}
 use Rattle.base.specs.Choice.{pick, first}
-use Rattle.base.proofs.Tests.{pick-yes, pick-no, eq-yes, eq-no}
-use Rattle.rules.specs.Table.{State, Outcome, refuse}
+use Rattle.base.proofs.Tests.{split, pick-yes, pick-no, eq-yes, eq-no, first-here, first-skip}
+use Rattle.base.proofs.Tests.{first-last}
+use Rattle.rules.specs.Table.{State, Outcome, outcome, refuse}
 use Rattle.rules.specs.Check.{check}
+use Rattle.rules.specs.Editor.{look, link, shadeOwed, take}
+use Rattle.rules.specs.Collector.{phaseStep, collect}
 use Rattle.rules.specs.Steps.{step, source, target, taking, linking, shading, collecting, looking}
 use Rattle.rules.specs.Changes.{differing, changes}
 use Rattle.rules.specs.declared.Step.{Step}
 use Rattle.rules.specs.declared.Place.{Place}
+use Rattle.rules.specs.declared.Made.{Made}
+use Rattle.rules.proofs.Changes.{told}
 use Rattle.rules.proofs.Laws.{step-taking, step-linking, step-shading, step-collecting}
-use Rattle.rules.proofs.Laws.{step-looking}
+use Rattle.rules.proofs.Laws.{step-looking, unless-done, unless-refused}
 
 module _ (a : Step) (s : State) where
   -- a call that does b's step, which is a's, and counts the colours that it changes
@@ -63,3 +68,27 @@ module _ (a : Step) (s : State) where
   unfolding step
   kind-none code e h i j k l =
       not 0 _ _ _ h (not 1 _ _ _ i (not 2 _ _ _ j (not 3 _ _ _ k (not 4 _ _ _ l (rw e)))))
+
+  -- any step of a record that does not pass
+  pub none-passes : (code : ℕ) → code ≡ check s → (code ≡ 0 → ⊥) → refuse s code 0 ≡ step a s
+  unfolding step take link shadeOwed collect look
+  none-passes code e n =
+      let Refuses : Outcome → Type 0 = λ o. refuse s code 0 ≡ o in
+      split Refuses _ _ _ (λ q. unless-refused _ s _ _ (first-here _ _ _ _ e n refl) n)
+      (λ q. split Refuses _ _ _ (λ q. unless-refused _ s _ _ (first-here _ _ _ _ e n refl) n)
+      (λ q. split Refuses _ _ _ (λ q. unless-refused _ s _ _ e n)
+      (λ q. split Refuses _ _ _ (λ q. unless-refused _ s _ _ e n)
+      (λ q. split Refuses _ _ _ (λ q. unless-refused _ s _ _ (first-here _ _ _ _ e n refl) n)
+      (λ q. ap (λ (k : ℕ). refuse s k 0) (first-here _ _ _ _ e n refl))))))
+
+-- the step of the phase is the collector's where the record passes
+pub collected : (d : Made) (l r c : List ℕ) (s : State) → 0 ≡ check s
+    → outcome d l r c ≡ phaseStep s (s .rec .phase) → d .changed ≡ differing (s .colour) c
+    → (outcome d l r c ≡ step collecting s) × (d .changed ≡ changes collecting s)
+unfolding collect
+collected d l r c s p e n =
+    told d l r c collecting s (rw step-collecting (unless-done _ _ _ 0 _ p refl e)) n
+
+-- [Steps 4] what is no step, where the record passes
+pub none-read : (code : ℕ) → 0 ≡ code → 10 ≡ first (code ∷ 10 ∷ [])
+none-read code p = first-skip 10 0 _ _ p refl (first-last _ _ refl)

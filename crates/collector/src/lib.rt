@@ -79,7 +79,7 @@ fn scan_step(colour: &[u8], x: Record, i: u16, k: u16) -> Made
     Made {
         answer: Answer::Looked(i),
         changed: 0,
-        rec: x.moved(Phase::Scan((i + 1) % x.m, k - 1)),
+        rec: x.moved(Phase::Scan(x.next(i), k - 1)),
     }
 }
 

@@ -22,16 +22,20 @@ fn link_free(left: &mut [u16], m: u16, r: u16) -> u16
     ensures { λ _. ⌜ tabulate (freshLeft m r) (r + 2) ++ drop (r + 2) (is left)
         ≡ tabulate (freshLeft m r) m ⌝ }
 {
-    let roots = r as usize + 2;
-    let mut next = 0;
-    let mut n = m as usize;
-    while roots < n {
-        n -= 1;
-        let node = n as u16;
-        left[n] = next;
-        next = node;
+    let roots = r + 2;
+    if m <= roots {
+        return 0;
     }
-    next
+    let mut node = m - 1;
+    let last = node as usize;
+    left[last] = 0;
+    while roots < node {
+        let next = node;
+        node -= 1;
+        let at = node as usize;
+        left[at] = next;
+    }
+    node
 }
 
 // Clears the first n edges.

@@ -5,89 +5,13 @@ use rules::Record;
 ghost use mathlib.Core.Path.{_≡_};
 ghost use mathlib.Core.List.{List, [], _∷_};
 ghost use Prim.Native.Nat.{ℕ, _+_, _<_, _≤_};
-ghost use lib.ListN.{length};
+ghost use lib.ListN.{length, getD};
 ghost use Rattle.base.specs.Lent.{was};
 ghost use mathlib.Core.Bool.{true};
 ghost use Rattle.rules.specs.Table.{mostNodes, mostSlots, badEdge};
 ghost use Rattle.rules.specs.Lent.{given};
 ghost use Rattle.rules.specs.Meet.{met, meet, anyEdge, firstSide};
-ghost use Rattle.rules.specs.InUse.{isHurt, firstHurt, countMet, inUse};
-ghost use Rattle.in_use.specs.Bad.{oneBad, countBad};
-
-// Whether node n has a number and a bad edge.
-fn hurt(left: &[u16], right: &[u16], num: &[u16; MOST_NODES], m: u16, n: u16) -> bool
-    requires { ⌜ n < mostNodes ⌝ }
-    requires { ⌜ n < length (now left) ⌝ }
-    requires { ⌜ n < length (now right) ⌝ }
-    ensures { λ b. ⌜ b ≡ isHurt m (was left ∷ was right ∷ []) (was num) n ⌝ }
-{
-    let at = n as usize;
-    if num[at] == 0 {
-        return false;
-    }
-    if table::bad_edge(m, left[at]) {
-        return true;
-    }
-    table::bad_edge(m, right[at])
-}
-
-// The lowest such node, m where there is none.
-fn seek_hurt(left: &[u16], right: &[u16], num: &[u16; MOST_NODES], m: u16) -> u16
-    requires { ⌜ m ≤ mostNodes ⌝ }
-    requires { ⌜ length (now left) ≡ m ⌝ }
-    requires { ⌜ length (now right) ≡ m ⌝ }
-    ensures { λ n. ⌜ n ≡ firstHurt m (was left ∷ was right ∷ []) (was num) ⌝ }
-{
-    let mut n = 0;
-    while n < m {
-        if hurt(left, right, num, m, n) {
-            return n;
-        }
-        n += 1;
-    }
-    n
-}
-
-// 1 for a bad edge, else 0.
-fn one_bad(m: u16, e: u16) -> u16
-    ensures { λ k. ⌜ k ≡ oneBad m e ⌝ }
-{
-    if table::bad_edge(m, e) {
-        return 1;
-    }
-    0
-}
-
-// How many of the edges are bad. No edge ends the loop, so that the machine can judge several of
-// them at once.
-fn count_bad(edges: &[u16], m: u16) -> u16
-    requires { ⌜ length (now edges) ≤ mostNodes ⌝ }
-    ensures { λ k. ⌜ k ≡ countBad m (was edges) (length (was edges)) ⌝ }
-{
-    let mut bad = 0;
-    let mut n = 0;
-    while n < edges.len() {
-        bad += one_bad(m, edges[n]);
-        n += 1;
-    }
-    bad
-}
-
-// Code 7: the lowest hurt node, m where there is none. Where no edge is bad, none is sought.
-fn first_hurt(left: &[u16], right: &[u16], num: &[u16; MOST_NODES], m: u16) -> u16
-    requires { ⌜ m ≤ mostNodes ⌝ }
-    requires { ⌜ length (now left) ≡ m ⌝ }
-    requires { ⌜ length (now right) ≡ m ⌝ }
-    ensures { λ n. ⌜ n ≡ firstHurt m (was left ∷ was right ∷ []) (was num) ⌝ }
-{
-    if count_bad(left, m) != 0 {
-        return seek_hurt(left, right, num, m);
-    }
-    if count_bad(right, m) != 0 {
-        return seek_hurt(left, right, num, m);
-    }
-    m
-}
+ghost use Rattle.rules.specs.InUse.{firstHurt, countMet, inUse};
 
 // The side of the first bad edge of node n, which has one.
 fn hurt_side(left: &[u16], m: u16, n: u16) -> u8
@@ -102,32 +26,41 @@ fn hurt_side(left: &[u16], m: u16, n: u16) -> u8
     rules::RIGHT
 }
 
-// What is answered where the numbers from 2 to below tail were given.
-fn count_met(
-    left: &[u16],
-    right: &[u16],
-    num: &[u16; MOST_NODES],
-    m: u16,
-    r: u16,
-    tail: usize,
-) -> Answer
+// What is answered where the numbers from 2 to below tail were given, and `hurt` is the first hurt
+// node, m where there is none.
+fn count_met(left: &[u16], m: u16, r: u16, tail: usize, hurt: u16) -> Answer
     requires { ⌜ m ≤ mostNodes ⌝ }
     requires { ⌜ r ≤ mostSlots ⌝ }
     requires { ⌜ r + 2 ≤ tail ⌝ }
     requires { ⌜ tail ≤ m ⌝ }
     requires { ⌜ length (now left) ≡ m ⌝ }
-    requires { ⌜ length (now right) ≡ m ⌝ }
-    ensures { λ a. ⌜ ((order : List ℕ) → a
-        ≡ countMet m r (was left ∷ was right ∷ []) (met (was num) order tail)) ⌝ }
+    ensures { λ a. ⌜ ((right num order : List ℕ)
+        → hurt ≡ firstHurt m (was left ∷ right ∷ []) num
+        → a ≡ countMet m r (was left ∷ right ∷ []) (met num order tail)) ⌝ }
 {
-    let n = first_hurt(left, right, num, m);
-    if n < m {
-        return Answer::refused_with(7, n, hurt_side(left, m, n));
+    if hurt < m {
+        return Answer::refused_with(7, hurt, hurt_side(left, m, hurt));
     }
     Answer::Counted(tail as u16 - (r + 2))
 }
 
-// What is answered of a table that passes its test.
+// What is answered of a table that passes its test, with marks that are zeros.
+fn count_with(left: &[u16], right: &[u16], marks: &mut [u8], m: u16, r: u16) -> Answer
+    requires { ⌜ m ≤ mostNodes ⌝ }
+    requires { ⌜ r ≤ mostSlots ⌝ }
+    requires { ⌜ r + 2 ≤ m ⌝ }
+    requires { ⌜ length (now left) ≡ m ⌝ }
+    requires { ⌜ length (now right) ≡ m ⌝ }
+    requires { ⌜ m ≤ length (now marks) ⌝ }
+    requires { ⌜ ((n : ℕ) → getD (now marks) n 0 ≡ 0) ⌝ }
+    ensures { λ a. ⌜ a ≡ countMet m r (was left ∷ was right ∷ [])
+        (meet m r (was left ∷ was right ∷ [])) ⌝ }
+{
+    let met = meet::meet(left, right, marks, m, r);
+    count_met(left, m, r, met.tail, met.hurt)
+}
+
+// The same; a table of few nodes has no more marks cleared than it may need.
 fn count(left: &[u16], right: &[u16], m: u16, r: u16) -> Answer
     requires { ⌜ m ≤ mostNodes ⌝ }
     requires { ⌜ r ≤ mostSlots ⌝ }
@@ -137,10 +70,13 @@ fn count(left: &[u16], right: &[u16], m: u16, r: u16) -> Answer
     ensures { λ a. ⌜ a ≡ countMet m r (was left ∷ was right ∷ [])
         (meet m r (was left ∷ was right ∷ [])) ⌝ }
 {
-    let mut num = [0u16; MOST_NODES];
-    let mut order = [0u32; MOST_NODES];
-    let tail = meet::meet(left, right, &mut num, &mut order, m, r);
-    count_met(left, right, &num, m, r, tail)
+    let nodes = m as usize;
+    if nodes <= meet::FEW_NODES {
+        let mut few = [0u8; meet::FEW_NODES];
+        return count_with(left, right, &mut few, m, r);
+    }
+    let mut marks = [0u8; MOST_NODES];
+    count_with(left, right, &mut marks, m, r)
 }
 
 // How many nodes some slot reaches, NIL and the slots' nodes left out.

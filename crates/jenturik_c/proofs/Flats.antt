@@ -18,7 +18,7 @@ use Rattle.rules.specs.declared.Made.{Made}
 use Rattle.rules.specs.declared.Record.{Record}
 use Rattle.schedule.specs.declared.Going.{Going}
 use Rattle.schedule.specs.Stands.{going, ended, begun, after, Goes}
-use Rattle.schedule.proofs.Loop.{Inv, counted, inside, leaves, turns, begins}
+use Rattle.schedule.proofs.Loop.{Inv, counted, inside, settled, leaves, turns, begins}
 use Rattle.jenturik_c.specs.Flat.{stepAt, stepsFrom, stepsOf, STEP_WORDS}
 
 -- a run begins with the record that it is given
@@ -66,11 +66,16 @@ module _ (w : List ℕ) where
 
   -- the sum is at most twice the number of steps, and so many words there are not
   pub can-go : (l r c : List ℕ) (g₀ g : Going) (s : State) → Stands g₀ l r c g s → g .at < g .end
-      → length w < 18446744073709551616 → Goes g
+      → length w < 18446744073709551616 → Goes g s
   can-go l r c g₀ g s i lt n =
       let few = counted (stepsOf w) _ _ g s i in
       let most = most-all (stepsOf w) (state l r c (g₀ .rec)) in
-      let k = count in record { before = lt; fits = omega (arith, few, most, k, n) }
+      let k = count in
+      record {
+        before = lt;
+        fits = omega (arith, few, most, k, n);
+        code = settled (stepsOf w) _ _ g s i lt;
+      }
 
   module _ (last : Followed) (sum : ℕ) (g : Going) (s : State) (i : Inv (stepsOf w) last sum g s)
       (lt : g .at < g .end) where

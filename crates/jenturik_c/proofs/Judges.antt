@@ -13,17 +13,16 @@ use Rattle.rules.specs.Check.{checkOf, check}
 use Rattle.rules.specs.FreeCount.{freeCount}
 use Rattle.rules.specs.Schedules.{schedule, collects}
 use Rattle.rules.specs.Editor.{look, link, shadeOwed, take}
-use Rattle.rules.specs.Collector.{phaseStep, collect}
+use Rattle.rules.specs.Collector.{collect}
 use Rattle.rules.specs.Steps.{step, codeOf, taking, linking, shading, collecting, looking}
-use Rattle.rules.specs.Changes.{differing, changes, changesAll}
+use Rattle.rules.specs.Changes.{changes, changesAll}
 use Rattle.rules.specs.declared.Step.{Step}
 use Rattle.rules.specs.declared.Record.{Record}
 use Rattle.rules.specs.declared.Answer.{Answer}
-use Rattle.rules.specs.declared.Made.{Made}
 use Rattle.rules.specs.declared.Place.{Place}
-use Rattle.rules.proofs.Laws.{unless-done, unless-refused, step-taking, step-linking, step-shading}
+use Rattle.rules.proofs.Laws.{unless-refused, step-taking, step-linking, step-shading}
 use Rattle.rules.proofs.Laws.{step-collecting, step-looking}
-use Rattle.rules.proofs.Changes.{told, refused-none}
+use Rattle.rules.proofs.Changes.{refused-none}
 use Rattle.rules.proofs.Sums.{sum-none}
 use Rattle.batch.specs.Last.{lastAnswer}
 use Rattle.batch.proofs.Last.{unscheduled}
@@ -64,14 +63,6 @@ pub count-refuses : Refuses (asking freeCount)
 unfolding freeCount
 count-refuses s h =
     ap (λ (a : Answer). did a s (s .rec)) (sym (pick-no _ _ _ _ (eq-no (check s) 0 h) refl))
-
--- the step of the phase is the collector's where the record passes
-pub collected : (d : Made) (l r c : List ℕ) (s : State) → 0 ≡ check s
-    → outcome d l r c ≡ phaseStep s (s .rec .phase) → d .changed ≡ differing (s .colour) c
-    → (outcome d l r c ≡ step collecting s) × (d .changed ≡ changes collecting s)
-unfolding collect
-collected d l r c s p e n =
-    told d l r c collecting s (rw step-collecting (unless-done _ _ _ 0 _ p refl e)) n
 
 -- what codes 1 and 2 being 0 tells, for slices of these lengths
 module _ (ll rl cl : ℕ) (w : List ℕ) (code : ℕ) (j : code ≡ judged (ll ∷ rl ∷ []) cl w) where

@@ -1,6 +1,6 @@
 -- What a call does for a caller that keeps the record as words: the section C of docs/RULES.md.
 use Rattle.base.specs.Choice.{pick}
-use Prim.Native.Nat.{ℕ}
+use Prim.Native.Nat.{ℕ, _<_}
 use mathlib.Core.List.{List, [], _∷_}
 use lib.Dec.{ltb}
 use Rattle.rules.specs.Table.{State, Outcome, state, did}
@@ -43,6 +43,11 @@ answeredOf t = answered (t .what) (t .code) (t .detail) (t .node)
 
 abbrev pub toldOf : Answer → Answered
 toldOf a = answered (whatOf a) (codeOf a) (detailOf a) (nodeOf a)
+
+-- what is told fits in the narrower fields of the answer to many steps. No promise rests on this.
+pub record Narrow (t : Told) : Type 0 where
+  pub what : t .what < 256
+  pub node : t .node < 65536
 
 -- what is told, and the three slices and the words as the call leaves them
 pub record Faced : Type 0 where

@@ -5,9 +5,11 @@ use mathlib.Core.List.{List}
 use mathlib.Core.Path.{_≡_}
 use Rattle.base.specs.Lent.{was, is}
 use Rattle.rules.specs.Lent.{Slice}
-use Rattle.rules.specs.Table.{State, Outcome}
+use Rattle.rules.specs.Table.{State, Outcome, state}
+use Rattle.rules.specs.Check.{check}
+use Rattle.rules.specs.declared.Record.{Record}
 use Rattle.rules.specs.Schedules.{Followed}
-use Rattle.record_words.specs.Words.{isRecord}
+use Rattle.record_words.specs.Words.{recordOf, isRecord}
 use Rattle.jenturik_c.specs.Face.{Answered, answeredOf, Faced, faced, face, faceCount}
 use Rattle.jenturik_c.specs.Many.{FacedRun, facedRun, faceRun, lastTold, faceNodes}
 use Rattle.jenturik_c.specs.declared.Told.{Told}
@@ -51,3 +53,9 @@ facingNodes f left right colour words =
 -- [C 9] words that were a record's are a record's
 abbrev pub Stays : Slice → Type 0
 Stays words = true ≡ isRecord (was words) → true ≡ isRecord (is words)
+
+-- the words are those of x, which passes
+pub record Passing (l r c w : List ℕ) (x : Record) : Type 0 where
+  pub words : true ≡ isRecord w
+  pub rec : x ≡ recordOf w
+  pub code : 0 ≡ check (state l r c x)

@@ -1,6 +1,7 @@
 // The library for callers in C: each call over three slices and the record's words, which the
 // caller keeps.
 use rules::Answer;
+use rules::Phase;
 use rules::Place;
 use rules::Ran;
 use rules::Record;
@@ -9,6 +10,8 @@ ghost use mathlib.Core.Path.{_≡_};
 ghost use mathlib.Core.List.{[], _∷_};
 ghost use Prim.Native.Nat.{_+_, _*_, _/_, _<_, _≤_};
 ghost use lib.ListN.{length};
+ghost use lib.Dec.{eqb};
+ghost use Rattle.base.specs.Choice.{pick};
 ghost use mathlib.Core.Bool.{true};
 ghost use Rattle.rules.specs.Fresh.{fresh};
 ghost use Rattle.rules.specs.Load.{load};
@@ -20,13 +23,13 @@ ghost use Rattle.rules.specs.Changes.{changes, changesAll};
 ghost use Rattle.freed.specs.Freed.{runIn, changesIn, appendedIn, noted};
 ghost use Rattle.record_words.specs.Words.{isRecord};
 ghost use Rattle.jenturik_c.specs.Face.{whatOf, answeredOf, toldOf, noRecord, shown, fitted};
-ghost use Rattle.jenturik_c.specs.Face.{asking};
+ghost use Rattle.jenturik_c.specs.Face.{asking, Narrow};
 ghost use Rattle.jenturik_c.specs.Face.{placeOf};
 ghost use Rattle.jenturik_c.specs.Flat.{STEP_WORDS, zeros, kindAt, ofKind, stepAt, stepsOf};
 ghost use Rattle.jenturik_c.specs.Flat.{scheduleOf, changesOf};
 ghost use Rattle.jenturik_c.specs.Many.{codeIn, detailIn, lastOf};
 ghost use Rattle.jenturik_c.specs.Lent.{kept, tells, facing, runs, facingRun};
-ghost use Rattle.jenturik_c.specs.Lent.{facingLast, facingCount, facingNodes, Stays};
+ghost use Rattle.jenturik_c.specs.Lent.{facingLast, facingCount, facingNodes, Stays, Passing};
 ghost use Rattle.jenturik_c.specs.Version.{VERSION};
 ghost use Rattle.base.specs.Lent.{was, is};
 ghost use Rattle.rules.specs.Lent.{given};
@@ -122,9 +125,11 @@ fn what(a: Answer) -> u8
     }
 }
 
-fn tell(a: Answer, changed: u8) -> Told
+// The node and what was done have fewer bits than their fields.
+fn tell_narrow(a: Answer, changed: u8) -> Told
     ensures { λ t. ⌜ answeredOf t ≡ toldOf a ⌝ }
     ensures { λ t. ⌜ t .changed ≡ changed ⌝ }
+    ensures { λ t. ⌜ Narrow t ⌝ }
 {
     Told {
         what: what(a) as u32,
@@ -133,6 +138,13 @@ fn tell(a: Answer, changed: u8) -> Told
         node: a.node() as u32,
         changed: changed as u32,
     }
+}
+
+fn tell(a: Answer, changed: u8) -> Told
+    ensures { λ t. ⌜ answeredOf t ≡ toldOf a ⌝ }
+    ensures { λ t. ⌜ t .changed ≡ changed ⌝ }
+{
+    tell_narrow(a, changed)
 }
 
 // A sum in 32 bits: the largest number where it does not fit.
@@ -331,7 +343,7 @@ pub extern "C" fn jenturik_link(
     let rec = made.rec;
     let answer = made.answer;
     let changed = made.changed;
-    record_words::put(words, rec);
+    record_words::put_owed(words, rec);
     tell(answer, changed)
 }
 
@@ -357,7 +369,7 @@ pub extern "C" fn jenturik_shade(
     let rec = made.rec;
     let answer = made.answer;
     let changed = made.changed;
-    record_words::put(words, rec);
+    record_words::put_owed(words, rec);
     tell(answer, changed)
 }
 
@@ -389,8 +401,66 @@ pub extern "C" fn jenturik_take(
     let rec = made.rec;
     let answer = made.answer;
     let changed = made.changed;
-    record_words::put(words, rec);
+    record_words::put_free(words, rec);
     tell(answer, changed)
+}
+
+// The collector's step in the record's phase. A refused one leaves the words, so they are not
+// stored.
+fn in_phase(
+    left: &mut [u16],
+    right: &mut [u16],
+    colour: &mut [u8],
+    words: &mut [u32; record_words::WORDS],
+    x: Record,
+    phase: Phase,
+) -> Told
+    requires { ⌜ Passing (now left) (now right) (now colour) (now words) x ⌝ }
+    requires { ⌜ phase ≡ x .phase ⌝ }
+    ensures { λ t. ⌜ tells t left right colour words
+        ≡ facing (step collecting) left right colour words ⌝ }
+    ensures { λ t. ⌜ true ≡ isRecord (is words) ⌝ }
+    ensures { λ t. ⌜ t .changed ≡ facingCount (changes collecting) left right colour words ⌝ }
+    ensures { λ t. ⌜ Narrow t ⌝ }
+{
+    let made = collector::phase_step(left, right, colour, x, phase);
+    let rec = made.rec;
+    let answer = made.answer;
+    let changed = made.changed;
+    if answer.code() != 0 {
+        return tell_narrow(answer, changed);
+    }
+    record_words::put_step(words, rec);
+    tell_narrow(answer, changed)
+}
+
+// The collector's step. Each phase has a call of its own, which the compiler makes a path of its
+// own up to the answer: where the paths meet before it, a call takes a fifth longer.
+fn any_phase(
+    left: &mut [u16],
+    right: &mut [u16],
+    colour: &mut [u8],
+    words: &mut [u32; record_words::WORDS],
+    x: Record,
+) -> Told
+    requires { ⌜ Passing (now left) (now right) (now colour) (now words) x ⌝ }
+    ensures { λ t. ⌜ tells t left right colour words
+        ≡ facing (step collecting) left right colour words ⌝ }
+    ensures { λ t. ⌜ true ≡ isRecord (is words) ⌝ }
+    ensures { λ t. ⌜ t .changed ≡ facingCount (changes collecting) left right colour words ⌝ }
+    ensures { λ t. ⌜ Narrow t ⌝ }
+{
+    let phase = x.phase;
+    match phase {
+        Phase::Roots(i) => in_phase(left, right, colour, words, x, Phase::Roots(i)),
+        Phase::Scan(i, k) => in_phase(left, right, colour, words, x, Phase::Scan(i, k)),
+        Phase::Left(i) => in_phase(left, right, colour, words, x, Phase::Left(i)),
+        Phase::ShadeLeft(i, n) => in_phase(left, right, colour, words, x, Phase::ShadeLeft(i, n)),
+        Phase::Right(i) => in_phase(left, right, colour, words, x, Phase::Right(i)),
+        Phase::ShadeRight(i, n) => in_phase(left, right, colour, words, x, Phase::ShadeRight(i, n)),
+        Phase::Black(i) => in_phase(left, right, colour, words, x, Phase::Black(i)),
+        Phase::Append(i) => in_phase(left, right, colour, words, x, Phase::Append(i)),
+    }
 }
 
 // One step of the collector.
@@ -412,13 +482,7 @@ pub extern "C" fn jenturik_collect(
         return tell(Answer::refused(code, 0), 0);
     }
     let x = record_words::record_of(w);
-    let phase = x.phase;
-    let made = collector::phase_step(left, right, colour, x, phase);
-    let rec = made.rec;
-    let answer = made.answer;
-    let changed = made.changed;
-    record_words::put(words, rec);
-    tell(answer, changed)
+    any_phase(left, right, colour, words, x)
 }
 
 // A code and a detail in one byte.
@@ -431,7 +495,40 @@ fn packed(code: u8, detail: u8) -> u8
     code + 32 * detail
 }
 
-// n steps of the collector, or as many as are done before one is refused.
+// How many steps of one are done that answers a code.
+fn one_done(code: u16) -> usize
+    ensures { λ n. ⌜ n ≡ pick (eqb code 0) 1 0 ⌝ }
+{
+    if code == 0 {
+        return 1;
+    }
+    0
+}
+
+// What one step answers, as the last of many.
+fn last_of(t: Told) -> Last
+    requires { ⌜ Narrow t ⌝ }
+    requires { ⌜ t .code < 32 ⌝ }
+    requires { ⌜ t .detail < 8 ⌝ }
+    ensures { λ r. ⌜ lastOf r ≡ answeredOf t ⌝ }
+    ensures { λ r. ⌜ r .done ≡ pick (eqb (t .code) 0) 1 0 ⌝ }
+    ensures { λ r. ⌜ r .changed ≡ t .changed ⌝ }
+{
+    let what = t.what;
+    let code = t.code;
+    let detail = t.detail;
+    let node = t.node;
+    Last {
+        done: one_done(code),
+        changed: t.changed,
+        node: node as u16,
+        what: what as u8,
+        code: packed(code as u8, detail as u8),
+    }
+}
+
+// n steps of the collector, or as many as are done before one is refused. A batch of one step is
+// the call of one step: it needs no stride.
 #[no_mangle]
 pub extern "C" fn jenturik_collect_many(
     left: &mut [u16],
@@ -459,10 +556,13 @@ pub extern "C" fn jenturik_collect_many(
         };
     }
     let x = record_words::record_of(w);
+    if n == 1 {
+        return last_of(any_phase(left, right, colour, words, x));
+    }
     let many = batch::all_steps(left, right, colour, x, rules::bound(x.m, x.r), n);
     let rec = many.rec;
     let answer = many.answer;
-    record_words::put(words, rec);
+    record_words::put_step(words, rec);
     Last {
         done: many.done,
         changed: fitted(many.changed),

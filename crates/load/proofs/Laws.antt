@@ -6,7 +6,7 @@ use mathlib.Core.Bool.{Bool, true, false, _||_}
 use mathlib.Core.List.{List, [], _∷_}
 use native.Mathlib.Numerals.{add-one}
 use native.Mathlib.Omega.{arith}
-use lib.ListN.{length, getD, set, take, length-take}
+use lib.ListN.{length, getD, set, take}
 use lib.Seq.{take-suc, take-suc-set, take-length}
 use lib.Dec.{ltb, eqb}
 use Rattle.base.specs.Choice.{pick}
@@ -99,7 +99,3 @@ module _ (given : List ℕ) where
   copied-part edges m l e =
       let q : m - 0 ≡ length given = omega arith in
       rw q e
-
-  pub copied-room : (edges : List ℕ) → take (length given) edges ≡ given
-      → length given ≤ length edges
-  copied-room edges e = omega (arith, length-take (length given) edges, ap length e)

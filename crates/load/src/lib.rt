@@ -5,10 +5,10 @@ use rules::Record;
 ghost use mathlib.Core.Path.{_≡_};
 ghost use mathlib.Core.List.{List, [], _∷_};
 ghost use Prim.Native.Nat.{ℕ, _+_, _<_, _≤_};
-ghost use lib.ListN.{length, take};
+ghost use lib.ListN.{length, getD, take};
 ghost use mathlib.Core.Bool.{true};
 ghost use Rattle.rules.specs.Table.{mostNodes, mostSlots, handed, refusedWith, refused};
-ghost use Rattle.rules.specs.Meet.{blank, anyEdge, firstSide};
+ghost use Rattle.rules.specs.Meet.{blank, meet, anyEdge, firstSide};
 ghost use Rattle.rules.specs.Load.{loadSizeOf, badGiven, firstBad, chained, chain};
 ghost use Rattle.rules.specs.Load.{chainLength, isShared, firstShared, judgeFree, loadBy, load};
 ghost use Rattle.rules.specs.Steps.{codeOf};
@@ -101,9 +101,8 @@ fn bad_side(lefts: &[u32], m: u32, n: usize) -> u8
 }
 
 // The edges given, as 16-bit numbers.
-fn narrow(given: &[u32], edges: &mut [u16; rules::MOST_NODES])
-    requires { ⌜ length (now given) ≤ mostNodes ⌝ }
-    requires { ⌜ length (now edges) ≡ mostNodes ⌝ }
+fn narrow(given: &[u32], edges: &mut [u16])
+    requires { ⌜ length (now given) ≤ length (now edges) ⌝ }
     requires { ⌜ Below mostNodes (now given) ⌝ }
     ensures { λ _. ⌜ take (length (was given)) (is edges) ≡ was given ⌝ }
 {
@@ -126,12 +125,13 @@ fn broken(n: u16) -> Found
 
 // Code 12: the free chain's end, or the first node that breaks it. The free nodes are marked. The
 // walk has come to k of them.
-fn chain(left: &[u16], right: &[u16], free: &mut [u8; rules::MOST_NODES], m: u16, r: u16) -> Found
+fn chain(left: &[u16], right: &[u16], free: &mut [u8], m: u16, r: u16) -> Found
     requires { ⌜ 2 ≤ m ⌝ }
     requires { ⌜ m ≤ mostNodes ⌝ }
     requires { ⌜ r ≤ mostSlots ⌝ }
     requires { ⌜ length (now left) ≡ m ⌝ }
     requires { ⌜ length (now right) ≡ m ⌝ }
+    requires { ⌜ m ≤ length (now free) ⌝ }
     requires { ⌜ Below m (now left) ⌝ }
     ensures { λ d. ⌜ chained (is free) (d .answer)
         ≡ chain r (was left ∷ was right ∷ []) m (was free) 1 ⌝ }
@@ -166,26 +166,28 @@ fn chain(left: &[u16], right: &[u16], free: &mut [u8; rules::MOST_NODES], m: u16
     broken(n)
 }
 
-// Whether node n is free and has a number.
-fn shared(free: &[u8; rules::MOST_NODES], num: &[u16; rules::MOST_NODES], n: u16) -> bool
-    requires { ⌜ n < mostNodes ⌝ }
-    ensures { λ b. ⌜ b ≡ isShared (was free) (was num) n ⌝ }
+// Whether node n is free and marked.
+fn shared(free: &[u8], marks: &[u8], n: u16) -> bool
+    requires { ⌜ n < length (now free) ⌝ }
+    requires { ⌜ n < length (now marks) ⌝ }
+    ensures { λ b. ⌜ b ≡ isShared (was free) (was marks) n ⌝ }
 {
     let at = n as usize;
     if free[at] == 0 {
         return false;
     }
-    num[at] != 0
+    marks[at] != 0
 }
 
-// Code 13: the lowest such node, m where there is none.
-fn first_shared(free: &[u8; rules::MOST_NODES], num: &[u16; rules::MOST_NODES], m: u16) -> u16
-    requires { ⌜ m ≤ mostNodes ⌝ }
-    ensures { λ n. ⌜ n ≡ firstShared m (was free) (was num) ⌝ }
+// The lowest such node, m where there is none.
+fn lowest_shared(free: &[u8], marks: &[u8], m: u16) -> u16
+    requires { ⌜ m ≤ length (now free) ⌝ }
+    requires { ⌜ m ≤ length (now marks) ⌝ }
+    ensures { λ n. ⌜ n ≡ firstShared m (was free) (was marks) ⌝ }
 {
     let mut n = 0;
     while n < m {
-        if shared(free, num, n) {
+        if shared(free, marks, n) {
             return n;
         }
         n += 1;
@@ -193,40 +195,87 @@ fn first_shared(free: &[u8; rules::MOST_NODES], num: &[u16; rules::MOST_NODES], 
     n
 }
 
+// Code 13: the lowest free node that slots reach, m where there is none. The marks are zeros.
+fn first_shared(left: &[u16], right: &[u16], free: &[u8], marks: &mut [u8], m: u16, r: u16) -> u16
+    requires { ⌜ m ≤ mostNodes ⌝ }
+    requires { ⌜ r ≤ mostSlots ⌝ }
+    requires { ⌜ r + 2 ≤ m ⌝ }
+    requires { ⌜ length (now left) ≡ m ⌝ }
+    requires { ⌜ length (now right) ≡ m ⌝ }
+    requires { ⌜ m ≤ length (now free) ⌝ }
+    requires { ⌜ m ≤ length (now marks) ⌝ }
+    requires { ⌜ ((n : ℕ) → getD (now marks) n 0 ≡ 0) ⌝ }
+    ensures { λ n. ⌜ n ≡ firstShared m (was free) (meet m r (was left ∷ was right ∷ []) .num) ⌝ }
+{
+    meet::meet(left, right, marks, m, r);
+    lowest_shared(free, marks, m)
+}
+
 // What is answered after the free chain: it, where it is a refusal, or 13, or the chain's end.
 fn judge_free(
     left: &[u16],
     right: &[u16],
-    free: &[u8; rules::MOST_NODES],
+    free: &[u8],
+    marks: &mut [u8],
     m: u16,
     r: u16,
     found: Answer,
 ) -> Answer
-    requires { ⌜ 2 ≤ m ⌝ }
     requires { ⌜ m ≤ mostNodes ⌝ }
     requires { ⌜ r ≤ mostSlots ⌝ }
+    requires { ⌜ r + 2 ≤ m ⌝ }
     requires { ⌜ length (now left) ≡ m ⌝ }
     requires { ⌜ length (now right) ≡ m ⌝ }
+    requires { ⌜ m ≤ length (now free) ⌝ }
+    requires { ⌜ m ≤ length (now marks) ⌝ }
+    requires { ⌜ ((n : ℕ) → getD (now marks) n 0 ≡ 0) ⌝ }
     ensures { λ a. ⌜ a ≡ judgeFree m r (was left ∷ was right ∷ []) (chained (was free) found) ⌝ }
 {
     if found.code() != 0 {
         return found;
     }
-    let mut num = [0u16; rules::MOST_NODES];
-    let mut order = [0u32; rules::MOST_NODES];
-    meet::meet(left, right, &mut num, &mut order, m, r);
-    let n = first_shared(free, &num, m);
+    let n = first_shared(left, right, free, marks, m, r);
     if n < m {
         return Answer::refused(13, n);
     }
     found
 }
 
-// Codes 12 and 13, for edges that are good.
-fn judge(left: &[u16], right: &[u16], m: u16, r: u16) -> Found
-    requires { ⌜ 2 ≤ m ⌝ }
+// Codes 12 and 13, for edges that are good, with marks that are zeros.
+fn judge_with(
+    left: &[u16],
+    right: &[u16],
+    free: &mut [u8],
+    marks: &mut [u8],
+    m: u16,
+    r: u16,
+) -> Found
     requires { ⌜ m ≤ mostNodes ⌝ }
     requires { ⌜ r ≤ mostSlots ⌝ }
+    requires { ⌜ r + 2 ≤ m ⌝ }
+    requires { ⌜ length (now left) ≡ m ⌝ }
+    requires { ⌜ length (now right) ≡ m ⌝ }
+    requires { ⌜ m ≤ length (now free) ⌝ }
+    requires { ⌜ m ≤ length (now marks) ⌝ }
+    requires { ⌜ ((n : ℕ) → getD (now marks) n 0 ≡ 0) ⌝ }
+    requires { ⌜ Below m (now left) ⌝ }
+    ensures { λ d. ⌜ d .answer ≡ judgeFree m r (was left ∷ was right ∷ [])
+        (chain r (was left ∷ was right ∷ []) m (was free) 1) ⌝ }
+    ensures { λ d. ⌜ (codeOf (d .answer) ≡ 0
+        → d .free ≡ chainLength (was left ∷ was right ∷ []) m 1) ⌝ }
+{
+    let found = chain(left, right, free, m, r);
+    let end = found.answer;
+    let answer = judge_free(left, right, free, marks, m, r, end);
+    let free = found.free;
+    Found { answer, free }
+}
+
+// The same; a table of few nodes has no more marks cleared than it may need.
+fn judge(left: &[u16], right: &[u16], m: u16, r: u16) -> Found
+    requires { ⌜ m ≤ mostNodes ⌝ }
+    requires { ⌜ r ≤ mostSlots ⌝ }
+    requires { ⌜ r + 2 ≤ m ⌝ }
     requires { ⌜ length (now left) ≡ m ⌝ }
     requires { ⌜ length (now right) ≡ m ⌝ }
     requires { ⌜ Below m (now left) ⌝ }
@@ -235,12 +284,15 @@ fn judge(left: &[u16], right: &[u16], m: u16, r: u16) -> Found
     ensures { λ d. ⌜ (codeOf (d .answer) ≡ 0
         → d .free ≡ chainLength (was left ∷ was right ∷ []) m 1) ⌝ }
 {
+    let nodes = m as usize;
+    if nodes <= meet::FEW_NODES {
+        let mut few_free = [0u8; meet::FEW_NODES];
+        let mut few = [0u8; meet::FEW_NODES];
+        return judge_with(left, right, &mut few_free, &mut few, m, r);
+    }
+    let mut free = [0u8; rules::MOST_NODES];
     let mut marks = [0u8; rules::MOST_NODES];
-    let found = chain(left, right, &mut marks, m, r);
-    let end = found.answer;
-    let answer = judge_free(left, right, &marks, m, r, end);
-    let free = found.free;
-    Found { answer, free }
+    judge_with(left, right, &mut free, &mut marks, m, r)
 }
 
 fn copy(given: &[u16], edges: &mut [u16])
@@ -264,9 +316,9 @@ fn load_table(
     m: u16,
     r: u16,
 ) -> Made
-    requires { ⌜ 2 ≤ m ⌝ }
     requires { ⌜ m ≤ mostNodes ⌝ }
     requires { ⌜ r ≤ mostSlots ⌝ }
+    requires { ⌜ r + 2 ≤ m ⌝ }
     requires { ⌜ length (now lefts) ≡ m ⌝ }
     requires { ⌜ length (now rights) ≡ m ⌝ }
     requires { ⌜ length (now left) ≡ m ⌝ }
@@ -297,7 +349,42 @@ fn load_table(
     }
 }
 
-// The same of lists of 32-bit numbers.
+// The same of lists of 32-bit numbers, with room for their 16 bits.
+fn load_with(
+    lefts: &[u32],
+    rights: &[u32],
+    l: &mut [u16],
+    g: &mut [u16],
+    left: &mut [u16],
+    right: &mut [u16],
+    colour: &mut [u8],
+    m: u16,
+    r: u16,
+) -> Made
+    requires { ⌜ m ≤ mostNodes ⌝ }
+    requires { ⌜ r ≤ mostSlots ⌝ }
+    requires { ⌜ r + 2 ≤ m ⌝ }
+    requires { ⌜ length (now lefts) ≡ m ⌝ }
+    requires { ⌜ length (now rights) ≡ m ⌝ }
+    requires { ⌜ m ≤ length (now l) ⌝ }
+    requires { ⌜ m ≤ length (now g) ⌝ }
+    requires { ⌜ length (now left) ≡ m ⌝ }
+    requires { ⌜ length (now right) ≡ m ⌝ }
+    requires { ⌜ length (now colour) ≡ m ⌝ }
+    requires { ⌜ Below m (now lefts) ⌝ }
+    requires { ⌜ Below m (now rights) ⌝ }
+    ensures { λ d. ⌜ leaves d left right colour
+        ≡ loadGood m r (was lefts ∷ was rights ∷ [])
+        (was left ∷ was right ∷ []) (was colour) ⌝ }
+    ensures { λ d. ⌜ d .changed ≡ 0 ⌝ }
+{
+    narrow(lefts, l);
+    narrow(rights, g);
+    let nodes = m as usize;
+    load_table(&l[0..nodes], &g[0..nodes], left, right, colour, m, r)
+}
+
+// The same; lists of few nodes have no more room cleared than they may need.
 fn load_good(
     lefts: &[u32],
     rights: &[u32],
@@ -307,9 +394,9 @@ fn load_good(
     m: u16,
     r: u16,
 ) -> Made
-    requires { ⌜ 2 ≤ m ⌝ }
     requires { ⌜ m ≤ mostNodes ⌝ }
     requires { ⌜ r ≤ mostSlots ⌝ }
+    requires { ⌜ r + 2 ≤ m ⌝ }
     requires { ⌜ length (now lefts) ≡ m ⌝ }
     requires { ⌜ length (now rights) ≡ m ⌝ }
     requires { ⌜ length (now left) ≡ m ⌝ }
@@ -322,12 +409,25 @@ fn load_good(
         (was left ∷ was right ∷ []) (was colour) ⌝ }
     ensures { λ d. ⌜ d .changed ≡ 0 ⌝ }
 {
+    let nodes = m as usize;
+    if nodes <= meet::FEW_NODES {
+        let mut few = [0u16; meet::FEW_NODES];
+        let mut fewer = [0u16; meet::FEW_NODES];
+        return load_with(
+            lefts,
+            rights,
+            &mut few,
+            &mut fewer,
+            left,
+            right,
+            colour,
+            m,
+            r,
+        );
+    }
     let mut l = [0u16; rules::MOST_NODES];
     let mut g = [0u16; rules::MOST_NODES];
-    narrow(lefts, &mut l);
-    narrow(rights, &mut g);
-    let nodes = m as usize;
-    load_table(&l[0..nodes], &g[0..nodes], left, right, colour, m, r)
+    load_with(lefts, rights, &mut l, &mut g, left, right, colour, m, r)
 }
 
 // Refused: no table is made.

@@ -8,17 +8,17 @@ use Rattle.reach.specs.Numbered.{one, nonzero}
 use Rattle.reach.specs.Counted as C
 use C.{Number, none, skip}
 
-one-le : (x : ℕ) → one x ≤ 1
+pub one-le : (x : ℕ) → one x ≤ 1
 unfolding one
 one-le zero = omega arith
 one-le (suc x) = omega arith
 
-one-no : (x : ℕ) → x ≡ 0 → one x ≡ 0
+pub one-no : (x : ℕ) → x ≡ 0 → one x ≡ 0
 unfolding one
 one-no zero h = refl
 one-no (suc x) h = absurd (omega arith)
 
-one-yes : (x : ℕ) → x ≢ 0 → one x ≡ 1
+pub one-yes : (x : ℕ) → x ≢ 0 → one x ≡ 1
 unfolding one
 one-yes zero h = absurd (h refl)
 one-yes (suc x) h = refl

@@ -58,6 +58,12 @@ lowest-passes f m =
     let e : 0 + m ≡ m = omega arith in
     rw e at (passes-lowest f m 0)
 
+-- tests that are passed alike
+pub lowest-same : (f g : ℕ → Bool) (k n : ℕ) → ((i : ℕ) → f i ≡ g i) → lowest f k n ≡ lowest g k n
+unfolding lowest
+lowest-same f g zero n e = refl
+lowest-same f g (suc k) n e = rw (e n, lowest-same f g k (n + 1) e)
+
 -- for the loops that look for it, at n
 pub lowest-here : (f : ℕ → Bool) (m n : ℕ) → n < m → f n ≡ true → n ≡ lowest f (m - n) n
 unfolding lowest

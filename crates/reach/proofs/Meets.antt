@@ -53,14 +53,18 @@ good-slot m n a b =
     (pick-no _ _ _ _ (or-skip _ _ _ (or-skip _ _ _ (le-no m n b) (eq-no n 1 (omega arith)))
     (eq-no n 0 (omega arith))) refl)
 
+-- a list of zeros
+pub zero-at : (k n : ℕ) → _≡_ {A = ℕ} (getD (replicate k 0) n 0) 0
+zero-at k n = go (decLt n k)
+  where
+    go : Dec (n < k) → _≡_ {A = ℕ} (getD (replicate k 0) n 0) 0
+    go (yes a) = getD-replicate {A = ℕ} k n 0 0 a
+    go (no a) = List·getD-eq-default {A = ℕ} (replicate k 0) 0 {n = n}
+        (omega (arith, length-replicate {A = ℕ} k 0))
+
 pub blank-at : (n : ℕ) → getD blank n 0 ≡ 0
 unfolding blank
-blank-at n = go (decLt n 4096)
-  where
-    go : Dec (n < 4096) → _≡_ {A = ℕ} (getD (replicate 4096 0) n 0) 0
-    go (yes a) = getD-replicate {A = ℕ} 4096 n 0 0 a
-    go (no a) = List·getD-eq-default {A = ℕ} (replicate 4096 0) 0 {n = n}
-        (omega (arith, length-replicate {A = ℕ} 4096 0))
+blank-at n = zero-at 4096 n
 
 pub blank-length : length blank ≡ 4096
 unfolding blank

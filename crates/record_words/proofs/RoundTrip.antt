@@ -4,7 +4,7 @@ use Prim.Native.Nat.{ℕ, zero, suc, _+_, _-_, _≤_}
 use native.Mathlib.Omega.{arith}
 use mathlib.Core.Bool.{Bool, true, false, true≢false}
 use mathlib.Core.List.{List, [], _∷_}
-use mathlib.Core.Path.{_≡_, refl, sym, ap, _∙_}
+use mathlib.Core.Path.{_≡_, refl, sym, subst, ap, _∙_}
 use lib.Dec.{eqb}
 use lib.ListN.{length, set, drop, drop-of-length-le}
 use lib.Seq.{drop-cons, set-getD}
@@ -12,15 +12,17 @@ use borrow.Author.Tests.{eqb-true, eqb-false}
 use Rattle.base.specs.Choice.{pick}
 use Rattle.base.proofs.Tests.{each, facts, split, eq-no}
 use Rattle.rules.proofs.Phases.{phase-back, phase-there}
+use Rattle.rules.specs.Phases.{tagOf, position, second}
+use Rattle.rules.specs.Records.{withOwed, withLast, withFree}
 use Rattle.rules.specs.declared.Record.{Record}
 use Rattle.rules.specs.declared.Owed.{Owed}
 use Rattle.rules.specs.declared.Owed.the-variants.{Nothing, Node}
 use Rattle.record_words.specs.Words.{word, owesOf, owedOf, laidOut, wordsOf}
 use Rattle.record_words.specs.Words.{shadeOf}
-use Rattle.record_words.specs.Words.{recordOf, flagged, isRecord, WORDS, USED, unused}
+use Rattle.record_words.specs.Words.{recordOf, flagged, isRecord, Within, WORDS, USED, unused}
 use Rattle.record_words.specs.Words.{NODES, SLOTS, PHASE, I, K, OWES, OWED, LAST, STEPS}
 use Rattle.record_words.specs.Words.{CYCLES, TOOK, BLACKENED, LASTBLACKENED, FREECOUNT}
-use Rattle.record_words.proofs.Widths.{widths}
+use Rattle.record_words.proofs.Widths.{widths, words-are, owes-most}
 
 owed-back : (o : Owed) → shadeOf (owesOf o) (owedOf o) ≡ o
 unfolding shadeOf pick
@@ -88,6 +90,63 @@ words-back w e =
 -- a word that is left as it is
 pub same-stored : (w : List ℕ) (n v : ℕ) → word w n ≡ v → w ≡ set w n v
 same-stored w n v e = sym (rw (← e) (set-getD w n 0))
+
+-- the stores of a record that differs from the words' only in some fields
+module _ (w : List ℕ) (e : true ≡ isRecord w) (x : Record) where
+  -- the widths of the words that stay
+  old : Within (wordsOf (recordOf w)) WORDS
+  old = subst (λ (v : List ℕ). Within v WORDS) (sym (words-back w e)) (widths w e)
+
+  pub owed-put : x ≡ withOwed (recordOf w) (x .owed) → (owes n : ℕ) → owes ≡ owesOf (x .owed)
+      → n ≡ owedOf (x .owed) → n ≤ 65535 → (set (set w OWES owes) OWED n ≡ wordsOf x)
+      × (true ≡ isRecord (set (set w OWES owes) OWED n))
+  owed-put h owes n p q k =
+      let one = owes-most (x .owed) in
+      let y = withOwed (recordOf w) (x .owed) in
+      let new : Within (wordsOf y) WORDS = omega (arith, old, one, k, q) in
+      words-are x _
+      (rw (p, q)
+      (ap (λ (v : List ℕ). set (set v OWES (owesOf (x .owed))) OWED (owedOf (x .owed)))
+      (sym (words-back w e)) ∙ ap wordsOf (sym h)))
+      (subst (λ (y : Record). Within (wordsOf y) WORDS) (sym h) new)
+
+  pub free-put : x ≡ withFree (withLast (recordOf w) (x .last)) (x .free) → x .last ≤ 65535
+      → x .free ≤ 65535 → (set (set w LAST (x .last)) FREECOUNT (x .free) ≡ wordsOf x)
+      × (true ≡ isRecord (set (set w LAST (x .last)) FREECOUNT (x .free)))
+  free-put h l k =
+      let y = withFree (withLast (recordOf w) (x .last)) (x .free) in
+      let new : Within (wordsOf y) WORDS = omega (arith, old, l, k) in
+      words-are x _
+      (ap (λ (v : List ℕ). set (set v LAST (x .last)) FREECOUNT (x .free)) (sym (words-back w e))
+      ∙ ap wordsOf (sym h))
+      (subst (λ (y : Record). Within (wordsOf y) WORDS) (sym h) new)
+
+  pub owed-most : x .owed ≡ recordOf w .owed → owedOf (x .owed) ≤ 65535
+  owed-most h = omega (arith, old, ap owedOf h)
+
+  -- the words that a collector's step can change
+  abbrev moved : List ℕ → ℕ → ℕ → ℕ → List ℕ
+  moved v tag i k =
+      set (set (set (set (set (set (set (set (set (set v PHASE tag) I i) K k) LAST (x .last)) STEPS
+      (x .steps)) CYCLES (x .cycles)) TOOK (x .took)) BLACKENED (x .blackened)) LASTBLACKENED
+      (x .lastblackened)) FREECOUNT (x .free)
+
+  pub step-stored : x .m ≡ recordOf w .m → x .r ≡ recordOf w .r → x .owed ≡ recordOf w .owed
+      → (tag i k : ℕ) → tag ≡ tagOf (x .phase) → i ≡ position (x .phase) → k ≡ second (x .phase)
+      → moved w tag i k ≡ wordsOf x
+  step-stored m r o tag i k p q z =
+      rw (p, q, z)
+      (ap (λ (v : List ℕ). moved v (tagOf (x .phase)) (position (x .phase)) (second (x .phase)))
+      (sym (words-back w e)) ∙ kept (sym m) (sym r) (sym o))
+    where
+      all : ℕ → ℕ → Owed → List ℕ
+      all nodes slots owed =
+          nodes ∷ slots ∷ tagOf (x .phase) ∷ position (x .phase) ∷ second (x .phase) ∷ owesOf owed
+          ∷ owedOf owed ∷ x .last ∷ x .steps ∷ x .cycles ∷ x .took ∷ x .blackened
+          ∷ x .lastblackened ∷ x .free ∷ unused
+
+      kept : {a b c d : ℕ} {f g : Owed} → a ≡ b → c ≡ d → f ≡ g → all a c f ≡ all b d g
+      kept h i j = rw (h, i, j) refl
 
 -- the words in use from the phase on, stored one after the other
 abbrev stored : List ℕ → Record → ℕ → ℕ → ℕ → ℕ → ℕ → List ℕ

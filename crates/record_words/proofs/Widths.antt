@@ -1,24 +1,24 @@
 -- Words that are a record's: each has its width. And the other way round: a record whose numbers
 -- have their widths has a record's words.
-use Prim.Native.Nat.{ℕ, zero, suc, _<_, _≤_}
+use Prim.Native.Nat.{ℕ, zero, suc, _^_, _<_, _≤_}
 use native.Mathlib.Omega.{arith}
-use mathlib.Core.Bool.{Bool, true, false, false≢true, not}
+use mathlib.Core.Bool.{Bool, true, false}
 use mathlib.Core.List.{List, [], _∷_}
 use mathlib.Core.Path.{_≡_, refl, sym, subst, _∙_}
-use lib.Dec.{leb, eqb}
+use lib.Dec.{eqb}
+use lib.Bits.{bitOr, or-lt, or-add-and, and-le-l, and-le-r}
 use borrow.Author.Tests.{leb-true, eqb-true, eqb-false}
 use Rattle.base.specs.Choice.{every}
-use Rattle.base.proofs.Tests.{each, every-here, every-skip, every-last, eq-yes, le-yes, le-no}
-use Rattle.base.proofs.Tests.{called, not-yes, not-no, pick-no, tests}
+use Rattle.base.proofs.Tests.{each, every-skip, every-last, eq-yes, le-yes, pick-no, tests}
 use Rattle.rules.specs.declared.Record.{Record}
 use Rattle.rules.specs.Phases.{mostTag}
 use Rattle.rules.proofs.Phases.{no-second}
 use Rattle.rules.specs.declared.Owed.{Owed}
 use Rattle.rules.specs.declared.Owed.the-variants.{Nothing, Node}
-use Rattle.record_words.specs.Words.{word, owesOf, owedOf, wordsOf, most, within}
-use Rattle.record_words.specs.Words.{flagged, isRecord, Within, WORDS, NODES, SLOTS, PHASE, I}
-use Rattle.record_words.specs.Words.{K, OWES, OWED, LAST, STEPS, CYCLES, TOOK, BLACKENED}
-use Rattle.record_words.specs.Words.{LASTBLACKENED, FREECOUNT}
+use Rattle.record_words.specs.Words.{word, owesOf, owedOf, wordsOf, most, within, joined}
+use Rattle.record_words.specs.Words.{narrows, spares, narrow, spare, flagged, isRecord}
+use Rattle.record_words.specs.Words.{Within, WORDS, NODES, PHASE, OWES, STEPS, CYCLES, TOOK}
+use Rattle.record_words.specs.Words.{USED}
 
 none-within : (w : List ℕ) → true ≡ within w 0
 unfolding within
@@ -28,23 +28,6 @@ one-more : (w : List ℕ) (n : ℕ) → true ≡ within w n → word w n ≤ wor
     ≡ within w (suc n)
 unfolding within
 one-more w n h k = every-skip _ _ _ h (every-last _ _ (le-yes _ _ k))
-
-later-no : (a b : Bool) → false ≡ b → false ≡ every (a ∷ b ∷ [])
-unfolding every
-later-no true true h = absurd (false≢true h)
-later-no true false h = refl
-later-no false b h = refl
-
--- a word that is too large is so among those before any later one
-pub exceeds : (w : List ℕ) (n k : ℕ) → n < k → word most n < word w n → false ≡ within w k
-unfolding within
-exceeds w n zero h q = absurd (omega arith)
-exceeds w n (suc k) h q = go (eqb n k) refl (λ l. exceeds w n k l q)
-  where
-    go : (b : Bool) → eqb n k ≡ b → (n < k → false ≡ within w k) → false
-        ≡ every (within w k ∷ leb (word w k) (word most k) ∷ [])
-    go true e f = let z = eqb-true n k e in later-no _ _ (rw (← z) (le-no _ _ q))
-    go false e f = let z = eqb-false n k e in every-here _ _ (f (omega arith))
 
 -- the tests as facts
 facts-of : (w : List ℕ) (n : ℕ) → true ≡ within w n → Within w n
@@ -56,71 +39,84 @@ tests-of : (w : List ℕ) (n : ℕ) → Within w n → true ≡ within w n
 tests-of w zero e = none-within w
 tests-of w (suc n) e = one-more w n (tests-of w n (e .0)) (e .1)
 
--- what the test of four words asks
-abbrev Four : ℕ → ℕ → ℕ → ℕ → ℕ → List Bool
-Four top a b c d = leb a top ∷ leb b top ∷ leb c top ∷ leb d top ∷ []
+-- numbers below 2 to the k
+abbrev Below : ℕ → List ℕ → Type 0
+Below k [] = Unit {0}
+Below k (n ∷ ns) = (n < 2 ^ k) × Below k ns
 
-abbrev AtMost : ℕ → ℕ → ℕ → ℕ → ℕ → Type 0
-AtMost top a b c d = (a ≤ top) × (b ≤ top) × (c ≤ top) × (d ≤ top)
+-- all bits of numbers are below 2 to the k where each number is, and only there
+joined-below : (k n : ℕ) (ns : List ℕ) → n < 2 ^ k → Below k ns → joined n ns < 2 ^ k
+joined-below k n [] h b = h
+joined-below k n (m ∷ ns) h b = joined-below k (bitOr n m) ns (or-lt k n m h (b .0)) (b .1)
 
-pub four-yes : (top a b c d : ℕ) (r : Bool) → r ≡ every (Four top a b c d) → not r ≡ false
-    → AtMost top a b c d
-four-yes top a b c d r e q =
-    let f = each _ (called _ _ _ e (not-no r q)) in (
-      leb-true _ _ (f .0),
-      leb-true _ _ (f .1 .0),
-      leb-true _ _ (f .1 .1 .0),
-      leb-true _ _ (f .1 .1 .1 .0),
-    )
+each-below : (k n : ℕ) (ns : List ℕ) → joined n ns < 2 ^ k → Below k (n ∷ ns)
+each-below k n [] h = (h, tt)
+each-below k n (m ∷ ns) h =
+    let f = each-below k (bitOr n m) ns h in
+    let sum = or-add-and n m in
+    let left = and-le-l n m in
+    let right = and-le-r n m in
+    (omega (arith, f .0, sum, right), (omega (arith, f .0, sum, left), f .1))
 
-four-hold : (top a b c d : ℕ) → AtMost top a b c d → true ≡ every (Four top a b c d)
-four-hold top a b c d h =
-    every-skip _ _ _ (le-yes _ _ (h .0)) (every-skip _ _ _ (le-yes _ _ (h .1))
-    (every-skip _ _ _ (le-yes _ _ (h .2)) (every-last _ _ (le-yes _ _ (h .3)))))
+-- for `search`
+at-most : (k n : ℕ) → n < suc k → n ≤ k
+at-most k n h = omega arith
 
--- the words' widths in the order in which they are tested
+below : (k n : ℕ) → n ≤ k → n < suc k
+below k n h = omega arith
+
+-- the words of 32 bits but for the first, and all bits of these
+abbrev wides : List ℕ → List ℕ
+wides w = word w CYCLES ∷ word w TOOK ∷ []
+
+abbrev wide : List ℕ → ℕ
+wide w = joined (word w STEPS) (wides w)
+
+-- the words' widths as they are tested
 abbrev Tested : List ℕ → Type 0
 Tested w =
-    (word w PHASE ≤ mostTag) × (word w OWES ≤ 1) × (word w FREECOUNT ≤ 65535)
-    × AtMost 65535 (word w I) (word w K) (word w OWED) (word w LAST)
-    × AtMost 65535 (word w NODES) (word w SLOTS) (word w BLACKENED) (word w LASTBLACKENED)
-    × AtMost 4294967295 (word w STEPS) (word w CYCLES) (word w TOOK) 0
-    × AtMost 0 (word w 14) (word w 15) (word w 16) (word w 17)
-    × AtMost 0 (word w 18) (word w 19) (word w 20) (word w 21)
-    × AtMost 0 (word w 22) (word w 23) 0 0
+    (word w PHASE ≤ mostTag) × (word w OWES ≤ 1) × (narrow w ≤ 65535) × (wide w ≤ 4294967295)
+    × (spare w ≡ 0)
 
-pub all-pass : (w : List ℕ) → Tested w → true ≡ within w WORDS
+all-pass : (w : List ℕ) → Tested w → true ≡ within w WORDS
 all-pass w t =
-    let a : Within w 6 = ((((((tt, t .4 .0), t .4 .1), t .0), t .3 .0), t .3 .1), t .1) in
-    let b : Within w 8 = ((a, t .3 .2), t .3 .3) in
-    let c : Within w 14 = ((((((b, t .5 .0), t .5 .1), t .5 .2), t .4 .2), t .4 .3), t .2) in
-    let d : Within w 20 = ((((((c, t .6 .0), t .6 .1), t .6 .2), t .6 .3), t .7 .0), t .7 .1) in
-    tests-of w WORDS ((((d, t .7 .2), t .7 .3), t .8 .0), t .8 .1)
+    let n = each-below 16 (word w NODES) (narrows w) (below 65535 _ (t .2)) in
+    let l = each-below 32 (word w STEPS) (wides w) (below 4294967295 _ (t .3)) in
+    let s = each-below 0 (word w USED) (spares w) (omega (arith, t .4)) in
+    let a : Within w 6 = search (at-most, t, n) depth 30 in
+    let b : Within w 14 = search (at-most, a, n, l) depth 30 in
+    let d : Within w 20 = search (at-most, b, s) depth 30 in
+    let e : Within w WORDS = search (at-most, d, s) depth 30 in
+    tests-of w WORDS e
 
 passed : (w : List ℕ) → Within w WORDS → Tested w
-passed w h = (
-  omega arith,
-  omega arith,
-  omega arith,
-  (omega arith, omega arith, omega arith, omega arith),
-  (omega arith, omega arith, omega arith, omega arith),
-  (omega arith, omega arith, omega arith, omega arith),
-  (omega arith, omega arith, omega arith, omega arith),
-  (omega arith, omega arith, omega arith, omega arith),
-  (omega arith, omega arith, omega arith, omega arith),
-)
+passed w h =
+    let n : Below 16 (narrows w) = search (below, h) depth 30 in
+    let l : Below 32 (wides w) = search (below, h) depth 30 in
+    let s : Below 0 (spares w) = search (below, h) depth 30 in (
+      omega arith,
+      omega arith,
+      at-most 65535 _ (joined-below 16 (word w NODES) (narrows w) (omega arith) n),
+      at-most 4294967295 _ (joined-below 32 (word w STEPS) (wides w) (omega arith) l),
+      omega (arith, joined-below 0 (word w USED) (spares w) (omega arith) s),
+    )
 
--- the test of four words fails only where one exceeds its width
-pub four-no : (w : List ℕ) (top a b c d : ℕ) (r : Bool) → r ≡ every (Four top a b c d)
-    → not r ≡ true → (Tested w → AtMost top a b c d) → false ≡ within w WORDS
-four-no w top a b c d r e q f = go (within w WORDS) refl
+-- a test that fails
+pub fails : (w : List ℕ) → (Tested w → ⊥) → false ≡ within w WORDS
+fails w n = go (within w WORDS) refl
   where
-    hold : true ≡ within w WORDS → true ≡ every (Four top a b c d)
-    hold z = four-hold top a b c d (f (passed w (facts-of w WORDS z)))
-
     go : (y : Bool) → within w WORDS ≡ y → false ≡ within w WORDS
     go false z = sym z
-    go true z = absurd (false≢true (called _ _ _ e (not-yes r q) ∙ sym (hold (sym z))))
+    go true z = absurd (n (passed w (facts-of w WORDS (sym z))))
+
+-- where the others are passed the last one decides
+pub decides : (w : List ℕ) (n s : ℕ) → word w PHASE ≤ mostTag → word w OWES ≤ 1 → n ≤ 65535
+    → n ≡ narrow w → wide w ≤ 4294967295 → s ≡ spare w → eqb s 0 ≡ within w WORDS
+decides w n s p o h e l f = go (eqb s 0) refl
+  where
+    go : (y : Bool) → eqb s 0 ≡ y → y ≡ within w WORDS
+    go true q = all-pass w (p, o, omega (arith, h, e), l, sym f ∙ eqb-true s 0 q)
+    go false q = fails w (λ t. eqb-false s 0 q (f ∙ t .4))
 
 pub widths : (w : List ℕ) → true ≡ isRecord w → Within w WORDS
 unfolding isRecord
@@ -149,4 +145,5 @@ words-are x w q h = (q, subst (λ (v : List ℕ). true ≡ isRecord v) (sym q) a
     all : true ≡ isRecord (wordsOf x)
     all =
         every-skip _ _ _ (eq-yes WORDS WORDS refl) (every-skip _ _ _ (tests-of _ WORDS h)
-        (every-skip _ _ _ (flagged-ok _ _ (no-second (x .phase))) (every-last _ _ (owed-flagged (x .owed)))))
+        (every-skip _ _ _ (flagged-ok _ _ (no-second (x .phase)))
+        (every-last _ _ (owed-flagged (x .owed)))))

@@ -5,6 +5,7 @@ use mathlib.Core.Bool.{Bool, true}
 use mathlib.Core.List.{List, [], _∷_}
 use lib.Dec.{leb, eqb}
 use lib.ListN.{length, getD, replicate}
+use lib.Bits.{bitOr}
 use Rattle.rules.specs.Check.{checkOf}
 use Rattle.rules.specs.Phases.{mostTag, tagOf, position, second, hasSecond, phaseOf}
 use Rattle.rules.specs.declared.Record.{Record}
@@ -131,6 +132,29 @@ most =
 unfoldable pub within : List ℕ → ℕ → Bool
 within w zero = true
 within w (suc n) = every (within w n ∷ leb (word w n) (word most n) ∷ [])
+
+-- all bits of n and of some numbers more
+abbrev pub joined : ℕ → List ℕ → ℕ
+joined n [] = n
+joined n (k ∷ ks) = joined (bitOr n k) ks
+
+-- the words of 16 bits, and those that have no use, but for the first of each
+abbrev pub narrows : List ℕ → List ℕ
+narrows w =
+    word w SLOTS ∷ word w I ∷ word w K ∷ word w OWED ∷ word w LAST ∷ word w BLACKENED ∷ word w
+    LASTBLACKENED ∷ word w FREECOUNT ∷ []
+
+abbrev pub spares : List ℕ → List ℕ
+spares w =
+    word w 15 ∷ word w 16 ∷ word w 17 ∷ word w 18 ∷ word w 19 ∷ word w 20 ∷ word w 21 ∷ word w 22
+    ∷ word w 23 ∷ []
+
+-- all bits of these
+abbrev pub narrow : List ℕ → ℕ
+narrow w = joined (word w NODES) (narrows w)
+
+abbrev pub spare : List ℕ → ℕ
+spare w = joined (word w USED) (spares w)
 
 -- n is 0 unless it is told
 unfoldable pub flagged : Bool → ℕ → Bool

@@ -6,14 +6,15 @@ ghost use mathlib.Core.Path.{_≡_};
 ghost use mathlib.Core.Bool.{true, not};
 ghost use mathlib.Core.List.{[], _∷_};
 ghost use Prim.Native.Nat.{_+_, _<_, _≤_};
-ghost use lib.Dec.{leb, ltb, eqb};
+ghost use lib.Dec.{ltb, eqb};
 ghost use lib.ListN.{set};
 ghost use Rattle.base.specs.Choice.{every};
 ghost use Rattle.record_words.specs.Words.{owesOf, owedOf, laidOut, wordsOf};
 ghost use Rattle.record_words.specs.Words.{shadeOf, pickedUp, recordOf, within, flagged};
 ghost use Rattle.record_words.specs.Words.{isRecord, judged, Within, WORDS, word};
-ghost use Rattle.record_words.specs.Words.{NODES, SLOTS};
+ghost use Rattle.record_words.specs.Words.{NODES, SLOTS, narrow, spare};
 ghost use Rattle.rules.specs.Table.{mostNodes, mostSlots, FREE};
+ghost use Rattle.rules.specs.Records.{withOwed, withLast, withFree};
 ghost use Rattle.rules.specs.Check.{positionOk, secondOk, lastOk, freeOk, countsOk, recordOk};
 ghost use Rattle.base.specs.Lent.{was, is};
 
@@ -180,25 +181,84 @@ pub fn put(words: &mut [u32; WORDS], x: Record)
     );
 }
 
-// Whether four numbers are at most top.
-fn at_most(top: u32, a: u32, b: u32, c: u32, d: u32) -> bool
-    ensures { λ ok. ⌜ ok ≡ every (leb a top ∷ leb b top ∷ leb c top ∷ leb d top ∷ []) ⌝ }
+// The same for a record that differs from the words' only in what is owed.
+pub fn put_owed(words: &mut [u32; WORDS], x: Record)
+    requires { ⌜ true ≡ isRecord (now words) ⌝ }
+    requires { ⌜ x ≡ withOwed (recordOf (now words)) (x .owed) ⌝ }
+    ensures { λ _. ⌜ is words ≡ wordsOf x ⌝ }
+    ensures { λ _. ⌜ true ≡ isRecord (is words) ⌝ }
 {
-    if top < a {
-        return false;
-    }
-    if top < b {
-        return false;
-    }
-    if top < c {
-        return false;
-    }
-    d <= top
+    let o = x.owed;
+    let node = owed(o);
+    words[OWES] = owes(o);
+    words[OWED] = node as u32;
 }
 
-// Whether each word has its width; those from 14 on have no use. They are tested by name, not in a
-// loop: the compiler would make it load four words at once, which waits until the words that the
-// call before stored one by one are in memory.
+// The same for one that differs only in the free list's last node and in the number of free nodes.
+pub fn put_free(words: &mut [u32; WORDS], x: Record)
+    requires { ⌜ true ≡ isRecord (now words) ⌝ }
+    requires { ⌜ x ≡ withFree (withLast (recordOf (now words)) (x .last)) (x .free) ⌝ }
+    ensures { λ _. ⌜ is words ≡ wordsOf x ⌝ }
+    ensures { λ _. ⌜ true ≡ isRecord (is words) ⌝ }
+{
+    let node = x.last;
+    let count = x.free;
+    words[LAST] = node as u32;
+    words[FREECOUNT] = count as u32;
+}
+
+// The same for one that does not differ in M, in R and in what is owed.
+pub fn put_step(words: &mut [u32; WORDS], x: Record)
+    requires { ⌜ true ≡ isRecord (now words) ⌝ }
+    requires { ⌜ x .m ≡ recordOf (now words) .m ⌝ }
+    requires { ⌜ x .r ≡ recordOf (now words) .r ⌝ }
+    requires { ⌜ x .owed ≡ recordOf (now words) .owed ⌝ }
+    ensures { λ _. ⌜ is words ≡ wordsOf x ⌝ }
+    ensures { λ _. ⌜ true ≡ isRecord (is words) ⌝ }
+{
+    let p = x.phase;
+    let position = rules::position(p);
+    let second = rules::second(p);
+    let last = x.last;
+    let blackened = x.blackened;
+    let lastblackened = x.lastblackened;
+    let free = x.free;
+    words[PHASE] = rules::tag(p);
+    words[I] = position as u32;
+    words[K] = second as u32;
+    words[LAST] = last as u32;
+    words[STEPS] = x.steps;
+    words[CYCLES] = x.cycles;
+    words[TOOK] = x.took;
+    words[BLACKENED] = blackened as u32;
+    words[LASTBLACKENED] = lastblackened as u32;
+    words[FREECOUNT] = free as u32;
+}
+
+// All bits of the words of 16 bits.
+fn narrow(w: [u32; WORDS]) -> u32
+    ensures { λ n. ⌜ n ≡ narrow w ⌝ }
+{
+    w[NODES]
+        | w[SLOTS]
+        | w[I]
+        | w[K]
+        | w[OWED]
+        | w[LAST]
+        | w[BLACKENED]
+        | w[LASTBLACKENED]
+        | w[FREECOUNT]
+}
+
+// All bits of the words that have no use.
+fn spare(w: [u32; WORDS]) -> u32
+    ensures { λ n. ⌜ n ≡ spare w ⌝ }
+{
+    w[14] | w[15] | w[16] | w[17] | w[18] | w[19] | w[20] | w[21] | w[22] | w[23]
+}
+
+// Whether each word has its width. The compiler loads several words at once only of those that no
+// step stores, M and R and the ones that have no use: else the load would wait for the stores.
 fn within(w: [u32; WORDS]) -> bool
     ensures { λ ok. ⌜ ok ≡ within w WORDS ⌝ }
 {
@@ -208,28 +268,13 @@ fn within(w: [u32; WORDS]) -> bool
     if 1 < w[OWES] {
         return false;
     }
-    if 65535 < w[FREECOUNT] {
+    if 65535 < narrow(w) {
         return false;
     }
-    if !at_most(65535, w[I], w[K], w[OWED], w[LAST]) {
+    if 4294967295 < w[STEPS] | w[CYCLES] | w[TOOK] {
         return false;
     }
-    if !at_most(65535, w[NODES], w[SLOTS], w[BLACKENED], w[LASTBLACKENED]) {
-        return false;
-    }
-    if !at_most(4294967295, w[STEPS], w[CYCLES], w[TOOK], 0) {
-        return false;
-    }
-    if !at_most(0, w[14], w[15], w[16], w[17]) {
-        return false;
-    }
-    if !at_most(0, w[18], w[19], w[20], w[21]) {
-        return false;
-    }
-    if !at_most(0, w[22], w[23], 0, 0) {
-        return false;
-    }
-    true
+    spare(w) == 0
 }
 
 fn flagged(told: bool, n: u32) -> bool

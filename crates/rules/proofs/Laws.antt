@@ -4,14 +4,15 @@ use Prim.Native.Nat.{ℕ, _<_}
 use mathlib.Core.Bool.{Bool, true, false, _||_, false≢true}
 use mathlib.Core.Path.{_≡_, refl, sym, _∙_}
 use mathlib.Core.List.{List, [], _∷_}
+use mathlib.Core.Logic.{_≢_}
 use native.Mathlib.Omega.{arith}
 use lib.ListN.{getD, set}
 use lib.Dec.{leb}
-use borrow.Author.Tests.{leb-false}
+use borrow.Author.Tests.{leb-false, eqb-false}
 use Rattle.base.specs.Choice.{pick}
 use Rattle.base.proofs.Tests.{pick-yes, pick-no, eq-yes, eq-no}
 use Rattle.rules.specs.Table.{State, Outcome, table, state, refuse, unless, edgeOf, withEdge}
-use Rattle.rules.specs.Table.{badEdge}
+use Rattle.rules.specs.Table.{badEdge, FREE}
 use Rattle.rules.specs.Editor.{look, link, shadeOwed, badFree, take}
 use Rattle.rules.specs.Collector.{collect}
 use Rattle.rules.specs.Steps.{step, taking, linking, shading, collecting, looking}
@@ -27,6 +28,15 @@ first-no false b q = refl
 pub fine-edge : (m e : ℕ) → false ≡ badEdge m e → e < m
 unfolding badEdge
 fine-edge m e h = leb-false m e (first-no (leb m e) _ h)
+
+second-no : (a b : Bool) → false ≡ a || b → b ≡ false
+second-no true b q = absurd (false≢true q)
+second-no false b q = sym q
+
+-- and not to FREE
+pub not-free : (m e : ℕ) → false ≡ badEdge m e → e ≢ FREE
+unfolding badEdge
+not-free m e h = eqb-false e FREE (second-no (leb m e) _ h)
 
 pub fine-free : (m r e : ℕ) → false ≡ badFree m r e → e < m
 unfolding badFree

@@ -9,4 +9,6 @@ pub mod Refused
 pub mod Changes
 pub mod Sums
 pub mod Rows
+pub mod Steady
+pub mod AnyStep
 pub mod Damage

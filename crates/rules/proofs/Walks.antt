@@ -2,19 +2,20 @@
 use Prim.Native.Nat.{ℕ, zero, suc, _-_, _/_, _%_, _<_, _≤_}
 use mathlib.Core.Bool.{Bool, true, false}
 use mathlib.Core.Path.{_≡_, refl, sym, subst, _∙_}
+use mathlib.Core.Logic.{_≢_}
 use native.Mathlib.Omega.{arith}
 use native.Mathlib.Numerals.{sub-one}
 use borrow.Author.Tests.{ltb-true}
 use lib.Dec.{ltb, eqb}
 use Rattle.base.specs.Choice.{pick}
 use Rattle.base.proofs.Tests.{split, lt-yes, every-skip, every-last}
-use Rattle.rules.specs.Table.{badEdge}
+use Rattle.rules.specs.Table.{badEdge, FREE}
 use Rattle.rules.specs.Places.{sidesOk, turnsOk, placeCode, walkFrom}
 use Rattle.rules.specs.Editor.{sideCode}
 use Rattle.rules.specs.declared.Place.{Place}
 use Rattle.rules.specs.declared.Walk.{Walk}
 use Rattle.rules.specs.declared.Walk.the-variants.{At, Damaged}
-use Rattle.rules.proofs.Laws.{fine-edge}
+use Rattle.rules.proofs.Laws.{fine-edge, not-free}
 
 pub slot-below : (E r : ℕ) (p : Place) → 0 ≡ placeCode E r p → p .slot < r
 unfolding placeCode pick
@@ -68,3 +69,17 @@ unfolding sidesOk
 two-sides zero w = refl
 two-sides (suc k) w = every-skip _ _ _ (lt-yes (w % 2) 2 (omega arith))
     (every-last _ _ (two-sides k (w / 2)))
+
+-- a walk from a node that a shade may be owed to ends at one: not at FREE
+abbrev pub Ends : ℕ → Walk → Type 0
+Ends m (At n) = (n ≢ FREE) × (n < m)
+Ends m (Damaged n side) = Unit {0}
+
+pub ends : (b : ℕ) (edges : ℕ → ℕ → ℕ) (m k w n : ℕ) → n ≢ FREE → n < m
+    → Ends m (walkFrom b edges m k w n)
+unfolding walkFrom
+ends b edges m zero w n f h = (f, h)
+ends b edges m (suc k) w n f h =
+    split (Ends m) _ _ _ (λ z. (λ q. omega arith, omega arith)) (λ z.
+    split (Ends m) _ _ _ (λ q. tt)
+    (λ q. ends b edges m k _ _ (not-free m _ (sym q)) (fine-edge m _ (sym q))))

@@ -56,6 +56,11 @@ bound E m r = m * m + (3 + 2 * E) * m + r + 2
 unfoldable pub cycleOk : Record → ℕ → Bool
 cycleOk x b = every (leb (x .blackened) (x .m) ∷ ltb (x .steps) b ∷ [])
 
+-- [Codes 2] the tests that a step can break: how many are free, and what the cycle counts, b being
+-- B
+unfoldable pub inLimits : Record → ℕ → Bool
+inLimits x b = every (freeOk (x .m) (x .r) (x .last) (x .free) ∷ cycleOk x b ∷ [])
+
 -- [Codes 2] what earlier cycles told
 unfoldable pub toldOk : Record → ℕ → Bool
 toldOk x b = every (leb (x .lastblackened) (x .m) ∷ leb (x .took) b ∷ [])

@@ -12,10 +12,10 @@ ghost use Rattle.base.specs.Choice.{every};
 ghost use Rattle.rules.specs.Facts.{manySteps};
 ghost use Rattle.rules.specs.Phases.{tagOf, position, second, hasSecond, phaseOf};
 ghost use Rattle.rules.specs.Records.{freshRecord, withPhase, withOwed, withLast};
-ghost use Rattle.rules.specs.Records.{lessFree, moreFree, owing, paid, moved, marked, rescan};
-ghost use Rattle.rules.specs.Records.{oneMore, closed, afterAppend};
+ghost use Rattle.rules.specs.Records.{lessFree, moreFree, owing, paid, moved, marked, next};
+ghost use Rattle.rules.specs.Records.{rescan, oneMore, closed, afterAppend};
 ghost use Rattle.rules.specs.Check.{sizeOk, phaseOk, owedOk, lastOk, freeOk, bound, cycleOk};
-ghost use Rattle.rules.specs.Check.{toldOk, countsOk, recordOk, checkOf};
+ghost use Rattle.rules.specs.Check.{inLimits, toldOk, countsOk, recordOk, checkOf};
 ghost use Rattle.rules.specs.Steps.{codeOf, nodeOf, detailOf};
 
 // [Table 1] The most nodes that a table has, and the most slots.
@@ -343,7 +343,7 @@ fn last_ok(m: u16, r: u16, n: u16) -> bool
 }
 
 // Whether so many may be free: none exactly while last is FREE.
-pub fn free_ok(m: u16, r: u16, last: u16, n: u16) -> bool
+fn free_ok(m: u16, r: u16, last: u16, n: u16) -> bool
     requires { ⌜ r ≤ mostSlots ⌝ }
     requires { ⌜ r + 2 ≤ m ⌝ }
     ensures { λ ok. ⌜ ok ≡ freeOk m r last n ⌝ }
@@ -368,13 +368,25 @@ pub fn bound(m: u16, r: u16) -> u32
 }
 
 // What the cycle counts, b being B.
-pub fn cycle_ok(x: Record, b: u32) -> bool
+fn cycle_ok(x: Record, b: u32) -> bool
     ensures { λ ok. ⌜ ok ≡ cycleOk x b ⌝ }
 {
     if x.m < x.blackened {
         return false;
     }
     x.steps < b
+}
+
+// Whether the counts that a step can bring past their limits are within them, b being B.
+pub fn in_limits(x: Record, b: u32) -> bool
+    requires { ⌜ x .r ≤ mostSlots ⌝ }
+    requires { ⌜ x .r + 2 ≤ x .m ⌝ }
+    ensures { λ ok. ⌜ ok ≡ inLimits x b ⌝ }
+{
+    if !free_ok(x.m, x.r, x.last, x.free) {
+        return false;
+    }
+    cycle_ok(x, b)
 }
 
 // What earlier cycles told.
@@ -572,16 +584,27 @@ impl Record {
         self.moved(Phase::Append(0))
     }
 
+    // The node after node i. A remainder would take as long as the rest of a step.
+    pub fn next(self, i: u16) -> u16
+        requires { ⌜ i < self .m ⌝ }
+        ensures { λ n. ⌜ n ≡ next self i ⌝ }
+    {
+        let after = i + 1;
+        if after == self.m {
+            return 0;
+        }
+        after
+    }
+
     // The step that blackens node i: the scan begins again behind it.
     pub fn rescan(mut self, i: u16) -> Record
         requires { ⌜ self .steps < manySteps ⌝ }
         requires { ⌜ self .blackened ≤ mostNodes ⌝ }
-        requires { ⌜ i < mostNodes ⌝ }
-        requires { ⌜ 0 < self .m ⌝ }
+        requires { ⌜ i < self .m ⌝ }
         ensures { λ r. ⌜ r ≡ rescan self i ⌝ }
     {
         self.blackened = self.blackened + 1;
-        self.moved(Phase::Scan((i + 1) % self.m, self.m))
+        self.moved(Phase::Scan(self.next(i), self.m))
     }
 
     // The step that completes the cycle.

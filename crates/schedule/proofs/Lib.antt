@@ -1,2 +1,3 @@
 pub mod Loop
 pub mod PartOfRun
+pub mod Settled

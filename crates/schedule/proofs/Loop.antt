@@ -22,9 +22,10 @@ use Rattle.rules.specs.declared.Record.{Record}
 use Rattle.rules.specs.declared.Made.{Made}
 use Rattle.rules.specs.declared.Step.{Step}
 use Rattle.schedule.specs.declared.Going.{Going}
-use Rattle.schedule.specs.Stands.{going, ended, begun, after}
+use Rattle.schedule.specs.Stands.{going, ended, begun, after, Settled}
 use Rattle.rules.proofs.Refused.{refused-stays}
 use Rattle.rules.proofs.Sums.{sum-done, sum-refused, sum-none, most-two}
+use Rattle.schedule.proofs.Settled.{starts-settled, step-settled}
 
 -- what a test picks, once it is known
 picked : {A : Type 0} (z x y : A) (b c : Bool) → z ≡ pick b x y → b ≡ c → z ≡ pick c x y
@@ -56,7 +57,7 @@ module _ (xs : List Step) (last : Followed) (sum : ℕ) where
   Inv g s =
       ((g .code ≡ 0) × (g .detail ≡ 0) × (g .end ≡ length xs) ×
       (last ≡ follow (drop (g .at) xs) (g .at) s) ×
-      (sum ≡ g .changed + changesAll (drop (g .at) xs) s)) ⊎
+      (sum ≡ g .changed + changesAll (drop (g .at) xs) s) × Settled s) ⊎
       ((g .end ≡ g .at) × (last ≡ followed (g .at) (g .code) (g .detail) s) × (sum ≡ g .changed))
 
   pub counted : (g : Going) (s : State) → Inv g s → g .changed ≤ sum
@@ -66,6 +67,10 @@ module _ (xs : List Step) (last : Followed) (sum : ℕ) where
   pub inside : (g : Going) (s : State) → Inv g s → g .at < g .end → g .at < length xs
   inside g s (inl p) lt = omega (arith, p .2, lt)
   inside g s (inr p) lt = absurd (omega (arith, p .0, lt))
+
+  pub settled : (g : Going) (s : State) → Inv g s → g .at < g .end → Settled s
+  settled g s (inl p) lt = p .5
+  settled g s (inr p) lt = absurd (omega (arith, p .0, lt))
 
   pub leaves : (g : Going) (s : State) → Inv g s → g .end ≤ g .at
       → (last ≡ followed (g .at) (g .code) (g .detail) s) × (sum ≡ g .changed)
@@ -114,6 +119,7 @@ module _ (xs : List Step) (last : Followed) (sum : ℕ) where
           p .2,
           picked _ _ _ _ _ first t,
           omega (arith, summed, sum-step a rest s d l r c e k (eqb-true _ _ t)),
+          subst (λ (o : Outcome). Settled (o .state)) (sym e) (step-settled s (p .5) a),
         ),
         omega (arith, lt),
       ))
@@ -143,5 +149,12 @@ begins xs l r c x g h =
     (state l r c (z .rec)) in
     subst Begun (sym h)
     (split Begun (eqb (check s) 0) (going 0 (length xs) 0 x) (ended 0 (check s) 0 0 x)
-    (λ t. inl (refl, refl, refl, picked _ _ _ _ _ e t, omega arith))
+    (λ t. inl (
+      refl,
+      refl,
+      refl,
+      picked _ _ _ _ _ e t,
+      omega arith,
+      starts-settled s (sym (eqb-true _ _ t)),
+    ))
     (λ t. inr (refl, picked _ _ _ _ _ e t, sum-none xs s (eqb-false _ _ t))))

@@ -1,7 +1,12 @@
 -- Words of the inner functions' contracts. No promise rests on this file.
 use Rattle.base.specs.Choice.{pick}
 use Prim.Native.Nat.{ℕ, _+_, _<_}
+use mathlib.Core.Path.{_≡_}
+use mathlib.Core.List.{map}
+use lib.ListN.{length}
 use lib.Dec.{eqb}
+use Rattle.rules.specs.Table.{State}
+use Rattle.rules.specs.Check.{bound, inLimits, check}
 use Rattle.rules.specs.Steps.{codeOf, detailOf}
 use Rattle.rules.specs.declared.Record.{Record}
 use Rattle.rules.specs.declared.Made.{Made}
@@ -27,7 +32,14 @@ after g d =
     (going (g .at + 1) (g .end) (g .changed + d .changed) (d .rec))
     (ended (g .at) (codeOf (d .answer)) (detailOf (d .answer)) (g .changed) (d .rec))
 
--- a step is still to be done, and the colours that it changes can be counted
-pub record Goes (g : Going) : Type 0 where
+-- where a run stands, code 2 is given only for a count past its limit
+abbrev pub Settled : State → Type 0
+Settled s =
+    check s ≡ pick (inLimits (s .rec) (bound (length (map length (s .edges))) (s .rec .m)
+    (s .rec .r))) 0 2
+
+-- at the state s a step is still to be done, and the colours that it changes can be counted
+pub record Goes (g : Going) (s : State) : Type 0 where
   pub before : g .at < g .end
   pub fits : g .changed + 2 < 18446744073709551616
+  pub code : Settled s

@@ -1,6 +1,6 @@
 -- What is put into a buffer, part by part.
 use Prim.Native.Nat.{ℕ, _+_, _<_, _≤_}
-use mathlib.Core.Path.{_≡_, refl, sym, _∙_}
+use mathlib.Core.Path.{_≡_, refl, sym, _∙_, ap}
 use mathlib.Core.List.{List, [], _∷_, _++_, append-nil}
 use native.Mathlib.Omega.{arith}
 use native.Mathlib.Numerals.{add-one}
@@ -34,6 +34,15 @@ put-room : (w : Written) (b : ℕ) → w .used < length (w .out) → put w b
     ≡ written (set (w .out) (w .used) b) (w .used + 1)
 unfolding put pick
 put-room w b h = rw (lt-ltb _ _ h)
+
+-- where there is room for byte k of a word, it stands behind the k before it
+pub put-next : (out : List ℕ) (used k : ℕ) (word : List ℕ) → k < length word
+    → used + k < length out → putAll (written out (used + k)) (drop k word)
+    ≡ putAll (written (set out (used + k) (getD word k 0)) (used + (k + 1))) (drop (k + 1) word)
+put-next out used k word h r =
+    put-turn _ k word h ∙ rw (put-room (written out (used + k)) (getD word k 0) r)
+    (ap (λ n. putAll (written (set out (used + k) (getD word k 0)) n) (drop (k + 1) word))
+    (omega arith))
 
 pub put-full : (w : Written) (b : ℕ) → length (w .out) ≤ w .used → put w b ≡ w
 unfolding put pick

@@ -2,7 +2,8 @@
 // of the lines are definitions in specs/.
 use rules::Step;
 ghost use mathlib.Core.Path.{_≡_};
-ghost use Prim.Native.Nat.{_<_};
+ghost use Prim.Native.Nat.{_+_, _<_, _≤_};
+ghost use lib.ListN.{length};
 ghost use Rattle.text.specs.Grammar.{byteAt, after, isDigit, digitsAt, numberAt, sideAt};
 ghost use Rattle.text.specs.Grammar.{lettersAt, turnsAt, placeAt, takeLine, linkLine};
 ghost use Rattle.text.specs.Grammar.{shadeLine, lookLine, collectLine, firstLine, counted};
@@ -414,8 +415,21 @@ pub fn put(out: &mut [u8], used: usize, b: u8) -> usize
     used
 }
 
-// Bytes more of the output, as far as there is room; answers how much is used.
-pub fn put_all(out: &mut [u8], used: usize, word: &[u8]) -> usize
+// Bytes more of the output, which has room for all of them.
+fn put_whole(out: &mut [u8], used: usize, word: &[u8])
+    requires { ⌜ used + length (now word) ≤ length (now out) ⌝ }
+    ensures { λ _. ⌜ written (is out) (used + length (was word))
+        ≡ putAll (written (was out) used) (was word) ⌝ }
+{
+    let mut k = 0;
+    while k < word.len() {
+        out[used + k] = word[k];
+        k += 1;
+    }
+}
+
+// Bytes more of the output, one by one, as far as there is room; answers how much is used.
+fn put_part(out: &mut [u8], used: usize, word: &[u8]) -> usize
     ensures { λ r. ⌜ written (is out) r ≡ putAll (written (was out) used) (was word) ⌝ }
 {
     let mut at = used;
@@ -425,6 +439,20 @@ pub fn put_all(out: &mut [u8], used: usize, word: &[u8]) -> usize
         k += 1;
     }
     at
+}
+
+// Bytes more of the output, as far as there is room; answers how much is used.
+pub fn put_all(out: &mut [u8], used: usize, word: &[u8]) -> usize
+    ensures { λ r. ⌜ written (is out) r ≡ putAll (written (was out) used) (was word) ⌝ }
+{
+    if out.len() < used {
+        return put_part(out, used, word);
+    }
+    if out.len() - used < word.len() {
+        return put_part(out, used, word);
+    }
+    put_whole(out, used, word);
+    used + word.len()
 }
 
 fn digit(out: &mut [u8], used: usize, n: u16, ten: u16) -> usize

@@ -1,19 +1,26 @@
--- For each kind, the call that is made has the definition's step of that kind by its own
--- contract; a kind above 4 is refused as the definition says.
-use lib.ListN.{take}
+-- A code refuses any step. Else `step_passed` makes it.
+use mathlib.Core.Path.{sym, _∙_}
 use borrow.Author.Needs.{needs}
-use Rattle.calls.proofs.Named.{kind-take, kind-link, kind-shade, kind-collect, kind-look}
 use Rattle.rules.proofs.Changes.{told-none}
-use Rattle.calls.proofs.Named.{kind-none, named}
-use Rattle.calls.specs.Unreadable.{unreadable}
+use Rattle.calls.proofs.Named.{none-passes}
 use Rattle.calls.proofs.step.Statement.{statement}
 use Rattle.calls.proofs.step.Tie as tie
 
-source-requires : tie.Need-source-requires
-source-requires c κs = search needs
+check-requires : tie.Need-check-requires
+check-requires c κs = search needs
 
-take-requires : tie.Need-take-requires
-take-requires c κs = search needs
+refusal-requires : tie.Need-refusal-requires
+refusal-requires c κs = search needs
+
+returns : tie.Need-returns
+returns c =
+    told-none _ _ _ _ _ (rw (c .refusal .ensures)
+    (none-passes _ _ _ (c .before .before .check .ensures) (c .before .if1 .taken)))
+    (rw (c .refusal .ensures))
+
+step-passed-requires : tie.Need-step-passed-requires
+step-passed-requires c κs =
+    sym (c .before .before .before .if1 .left) ∙ c .before .before .before .before .check .ensures
 
 same-length : tie.Need-same-length
 same-length c = search needs
@@ -24,144 +31,19 @@ same-length-2 c = search needs
 same-length-3 : tie.Need-same-length-3
 same-length-3 c = search needs
 
-returns : tie.Need-returns
-returns c =
-    let at-take = c .before .before .before .before .before .before in
-    let at-source = at-take .before in
-    let at-if1 = at-source .before .before .before .before in
-    named _ _ _ _ _ (at-take .take .ensures)
-    (kind-take _ _ _ (at-source .source .ensures) (at-if1 .if1 .taken))
-
-source-requires-2 : tie.Need-source-requires-2
-source-requires-2 c κs = search needs
-
-target-requires : tie.Need-target-requires
-target-requires c κs = search needs
-
-link-requires : tie.Need-link-requires
-link-requires c κs = search needs
-
-same-length-4 : tie.Need-same-length-4
-same-length-4 c = search needs
-
-same-length-5 : tie.Need-same-length-5
-same-length-5 c = search needs
-
-same-length-6 : tie.Need-same-length-6
-same-length-6 c = search needs
-
 returns-2 : tie.Need-returns-2
-returns-2 c =
-    let at-source2 = c .before .before .before .before .before .before in
-    let at-if2 = at-source2 .before .before .before .before in
-    named _ _ _ _ _ (c .before .before .before .before .link .ensures)
-    (kind-link _ _ _ _ (at-source2 .source2 .ensures)
-    (c .before .before .before .before .before .target .ensures) (at-if2 .if2 .taken))
-
-shade-requires : tie.Need-shade-requires
-shade-requires c κs = search needs
-
-same-length-7 : tie.Need-same-length-7
-same-length-7 c = search needs
-
-same-length-8 : tie.Need-same-length-8
-same-length-8 c = search needs
-
-same-length-9 : tie.Need-same-length-9
-same-length-9 c = search needs
-
-returns-3 : tie.Need-returns-3
-returns-3 c =
-    let at-if3 = c .before .before .before .before .before .before in
-    named _ _ _ _ _ (c .before .before .shade .ensures) (kind-shade _ _ (at-if3 .if3 .taken))
-
-collect-requires : tie.Need-collect-requires
-collect-requires c κs = search needs
-
-same-length-10 : tie.Need-same-length-10
-same-length-10 c = search needs
-
-same-length-11 : tie.Need-same-length-11
-same-length-11 c = search needs
-
-same-length-12 : tie.Need-same-length-12
-same-length-12 c = search needs
-
-returns-4 : tie.Need-returns-4
-returns-4 c =
-    let at-collect = c .before .before .before .before .before .before in
-    let at-if4 = at-collect .before .before .before .before in
-    named _ _ _ _ _ (at-collect .collect .ensures) (kind-collect _ _ (at-if4 .if4 .taken))
-
-source-requires-3 : tie.Need-source-requires-3
-source-requires-3 c κs = search needs
-
-look-requires : tie.Need-look-requires
-look-requires c κs = search needs
-
-same-length-13 : tie.Need-same-length-13
-same-length-13 c = search needs
-
-same-length-14 : tie.Need-same-length-14
-same-length-14 c = search needs
-
-same-length-15 : tie.Need-same-length-15
-same-length-15 c = search needs
-
-returns-5 : tie.Need-returns-5
-returns-5 c =
-    named _ _ _ _ _ (c .look .ensures) (kind-look _ _ _ (c .before .source3 .ensures)
-    (c .before .before .before .before .before .if5 .taken))
-
-unreadable-requires : tie.Need-unreadable-requires
-unreadable-requires c κs = search needs
-
-refusal-requires : tie.Need-refusal-requires
-refusal-requires c κs = search needs
-
-returns-6 : tie.Need-returns-6
-unfolding unreadable
-returns-6 c =
-    let at-if5 = c .before .before in
-    let at-if3 = at-if5 .before .before in
-    told-none _ _ _ _ _ (rw (c .refusal .ensures)
-    (kind-none _ _ _ (c .before .unreadable .ensures) (at-if3 .before .before .if1 .left)
-    (at-if3 .before .if2 .left) (at-if3 .if3 .left) (at-if5 .before .if4 .left)
-    (at-if5 .if5 .left))) (rw (c .refusal .ensures))
+returns-2 c = let done = c .before .before .before .before .before .before .step-passed .ensures in
+    (done .0, done .1)
 
 pub step-spec : {M : Type 1} → statement M
 step-spec =
     tie.close
     (tie.spec
-    source-requires
-    take-requires
+    check-requires
+    refusal-requires
+    returns
+    step-passed-requires
     same-length
     same-length-2
     same-length-3
-    returns
-    source-requires-2
-    target-requires
-    link-requires
-    same-length-4
-    same-length-5
-    same-length-6
-    returns-2
-    shade-requires
-    same-length-7
-    same-length-8
-    same-length-9
-    returns-3
-    collect-requires
-    same-length-10
-    same-length-11
-    same-length-12
-    returns-4
-    source-requires-3
-    look-requires
-    same-length-13
-    same-length-14
-    same-length-15
-    returns-5
-    unreadable-requires
-    refusal-requires
-    returns-6)
+    returns-2)

@@ -1,4 +1,5 @@
--- The tests stand in the definition's order, and each return is its case.
+-- The tests stand in the definition's order, and each return is its case; `next` gives the node
+-- after this one.
 use mathlib.Core.Path.{refl}
 use borrow.Author.Needs.{needs}
 use Rattle.base.proofs.Tests.{tests}
@@ -35,21 +36,19 @@ returns-3 : tie.Need-returns-3
 unfolding scanStep
 returns-3 c = (λ es. search (same, tests, needs) depth 12, refl)
 
-add-t17 : tie.Need-add-t17
-add-t17 c = search needs
+next-requires : tie.Need-next-requires
+next-requires c κs = search needs
 
-rem-t18 : tie.Need-rem-t18
-rem-t18 c = search needs
-
-sub-t19 : tie.Need-sub-t19
-sub-t19 c = search needs
+sub-t18 : tie.Need-sub-t18
+sub-t18 c = search needs
 
 moved-requires-2 : tie.Need-moved-requires-2
 moved-requires-2 c κs = search needs
 
 returns-4 : tie.Need-returns-4
 unfolding scanStep
-returns-4 c = (λ es. search (same, tests, needs) depth 12, refl)
+returns-4 c =
+    (λ es. rw (← c .before .next .ensures) (search (same, tests, needs) depth 12), refl)
 
 pub scan-step-spec : {M : Type 1} → statement M
 scan-step-spec =
@@ -63,8 +62,7 @@ scan-step-spec =
     returns-2
     marked-requires
     returns-3
-    add-t17
-    rem-t18
-    sub-t19
+    next-requires
+    sub-t18
     moved-requires-2
     returns-4)

@@ -1,30 +1,47 @@
--- `count` meets its contract: the numbering is that of the definition, and it is what is counted.
-use mathlib.Core.Path.{refl, ap, _∙_}
-use mathlib.Core.List.{[], _∷_}
+-- `count` meets its contract: both arrays have a mark for each node, and are zeros.
 use native.Mathlib.Omega.{arith}
-use Rattle.rules.specs.Meet.{Met, blank}
-use Rattle.rules.specs.InUse.{countMet}
-use Rattle.in_use.proofs.Laws.{tail-fits}
+use borrow.Author.Needs.{needs}
+use Rattle.reach.proofs.Meets.{zero-at}
 use Rattle.in_use.proofs.count.Statement.{statement}
 use Rattle.in_use.proofs.count.Tie as tie
 
-meet-requires : tie.Need-meet-requires
-unfolding blank
-meet-requires c κs =
-    (omega arith, (omega arith, (omega arith, (omega arith, (omega arith, (refl, refl))))))
+slice-aggregate-count-with : tie.Need-slice-aggregate-count-with
+slice-aggregate-count-with c = search needs
 
-count-met-requires : tie.Need-count-met-requires
-count-met-requires c κs =
-    let fits = tail-fits _ _ _ _ (c .before .meet .ensures) (omega arith) (omega arith) in
-    omega (arith, fits)
+count-with-requires : tie.Need-count-with-requires
+count-with-requires c κs = (
+  omega arith,
+  (
+    omega arith,
+    (omega arith, (omega arith, (omega arith, (omega arith, λ n. zero-at 512 n)))),
+  ),
+)
 
 returns : tie.Need-returns
-returns c =
-    let at-meet = c .before .before in
-    let at-entry = at-meet .before .before .before .before .before in
-    c .count-met .ensures _
-    ∙ ap (λ (s : Met). countMet (at-entry .args .m) (at-entry .args .r)
-    (at-entry .args .left .now ∷ at-entry .args .right .now ∷ []) s) (at-meet .meet .ensures)
+returns c = c .before .count-with .ensures
+
+slice-aggregate-count-with-2 : tie.Need-slice-aggregate-count-with-2
+slice-aggregate-count-with-2 c = search needs
+
+count-with-requires-2 : tie.Need-count-with-requires-2
+count-with-requires-2 c κs = (
+  omega arith,
+  (
+    omega arith,
+    (omega arith, (omega arith, (omega arith, (omega arith, λ n. zero-at 4096 n)))),
+  ),
+)
+
+returns-2 : tie.Need-returns-2
+returns-2 c = c .before .count-with2 .ensures
 
 pub count-spec : {M : Type 1} → statement M
-count-spec = tie.close (tie.spec meet-requires count-met-requires returns)
+count-spec =
+    tie.close
+    (tie.spec
+    slice-aggregate-count-with
+    count-with-requires
+    returns
+    slice-aggregate-count-with-2
+    count-with-requires-2
+    returns-2)

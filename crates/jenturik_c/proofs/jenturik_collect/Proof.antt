@@ -1,14 +1,10 @@
--- A code that the words are given refuses the call. Else the phase's step is made over the record
--- that the words are, which passes: its contract is the face's, and the record's words are written
--- back.
-use mathlib.Core.Path.{refl, sym, ap, _∙_}
+-- A code that the words are given refuses the call. Else the words are those of a record that
+-- passes, and `any_phase` makes the step.
+use mathlib.Core.Path.{ap, _∙_}
 use borrow.Author.Needs.{needs}
-use Rattle.rules.proofs.Checked.{good, inside}
 use Rattle.jenturik_c.specs.Face.{toldOf}
-use Rattle.jenturik_c.proofs.Faces.{faces, faces-count}
 use Rattle.jenturik_c.proofs.Judges.{a-record, passes, refuses, refuses-count}
 use Rattle.jenturik_c.proofs.Judges.{collect-refuses}
-use Rattle.jenturik_c.proofs.Judges.{collected}
 use Rattle.jenturik_c.proofs.jenturik_collect.Statement.{statement}
 use Rattle.jenturik_c.proofs.jenturik_collect.Tie as tie
 
@@ -33,21 +29,16 @@ returns c =
 record-of-requires : tie.Need-record-of-requires
 record-of-requires c κs = a-record _ _ _ _ _ (c .before .judge .ensures) (c .if1 .left)
 
-phase-step-requires : tie.Need-phase-step-requires
-phase-step-requires c κs =
-    let code = passes _ _ _ _ _ (c .before .before .before .before .before .judge .ensures)
-    (c .before .before .before .before .if1 .left) _
-    (c .before .before .before .record-of .ensures) in
-    (good _ _ _ _ code, inside _ _ _ code)
-
-put-requires : tie.Need-put-requires
-put-requires c κs = a-record _ _ _ _ _ (c .before .before .before .before .before .before .before
-    .before .before .before .before .before .before .before .judge .ensures)
-    (c .before .before .before .before .before .before .before .before .before .before .before
-    .before .before .if1 .left)
-
-tell-requires-2 : tie.Need-tell-requires-2
-tell-requires-2 c κs = search needs
+any-phase-requires : tie.Need-any-phase-requires
+any-phase-requires c κs =
+    let at-record = c .before .before .before .before in
+    let code = at-record .before .before .judge .ensures in
+    let none = at-record .before .if1 .left in
+    record {
+      words = a-record _ _ _ _ _ code none;
+      rec = at-record .record-of .ensures;
+      code = passes _ _ _ _ _ code none _ (at-record .record-of .ensures);
+    }
 
 same-length : tie.Need-same-length
 same-length c = search needs
@@ -60,29 +51,8 @@ same-length-3 c = search needs
 
 returns-2 : tie.Need-returns-2
 returns-2 c =
-    let code = passes _ _ _ _ _ (c .before .before .before .before .before .before .before .before
-    .before .before .before .before .before .before .before .before .judge .ensures)
-    (c .before .before .before .before .before .before .before .before .before .before .before
-    .before .before .before .before .if1 .left) _ (c .before .before .before .before .before .before
-    .before .before .before .before .before .before .before .before .record-of .ensures) in
-    let same = c .before .before .before .before .before .before .before .before .before .before
-    .before .before .before .before .record-of .ensures in
-    let words = a-record _ _ _ _ _ (c .before .before .before .before .before .before .before
-    .before .before .before .before .before .before .before .before .before .judge .ensures)
-    (c .before .before .before .before .before .before .before .before .before .before .before
-    .before .before .before .before .if1 .left) in
-    let done = c .before .before .before .before .before .before .before .before .before .before
-    .phase-step .ensures in
-    let made = collected (c .before .before .before .before .before .before .before .before .before
-    .before .phase-step .result) _ _ _ _ code (done .0) (done .1) in (
-      faces _ _ _ _ _ _ _ _ _ words same _ (c .before .before .before .before .before .before
-          .before .before .before .before .phase-step .result) _ (made .0)
-          (c .before .put .ensures .0) (c .tell2 .ensures .0),
-      (
-        λ h. c .before .put .ensures .1,
-        faces-count _ _ _ _ _ words same _ _ (c .tell2 .ensures .1 ∙ made .1),
-      ),
-    )
+    let done = c .before .before .before .before .before .before .any-phase .ensures in
+    (done .0, (λ h. done .1 .0, done .1 .1 .0))
 
 pub jenturik-collect-spec : {M : Type 1} → statement M
 jenturik-collect-spec =
@@ -93,9 +63,7 @@ jenturik-collect-spec =
     tell-requires
     returns
     record-of-requires
-    phase-step-requires
-    put-requires
-    tell-requires-2
+    any-phase-requires
     same-length
     same-length-2
     same-length-3

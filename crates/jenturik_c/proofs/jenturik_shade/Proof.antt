@@ -1,9 +1,10 @@
 -- A code that the words are given refuses the call. Else the step is made over the record that the
 -- words are, which passes: its contract is the face's, and the record's words are written back.
-use mathlib.Core.Path.{ap, _∙_}
+use mathlib.Core.Path.{refl, ap, _∙_}
 use borrow.Author.Needs.{needs}
 use Rattle.jenturik_c.specs.Face.{toldOf}
 use Rattle.jenturik_c.proofs.Faces.{faces, faces-count}
+use Rattle.jenturik_c.proofs.Changed.{shade-owed}
 use Rattle.jenturik_c.proofs.Judges.{a-record, passes, refuses, refuses-count, shade-refuses}
 use Rattle.jenturik_c.proofs.jenturik_shade.Statement.{statement}
 use Rattle.jenturik_c.proofs.jenturik_shade.Tie as tie
@@ -34,9 +35,14 @@ shade-passed-requires : tie.Need-shade-passed-requires
 shade-passed-requires c κs = passes _ _ _ _ _ (c .before .before .before .judge .ensures)
     (c .before .before .if1 .left) _ (c .record-of .ensures)
 
-put-requires : tie.Need-put-requires
-put-requires c κs = a-record _ _ _ _ _ (c .before .before .before .before .before .before .before
+put-owed-requires : tie.Need-put-owed-requires
+put-owed-requires c κs =
+    let words = a-record _ _ _ _ _ (c .before .before .before .before .before .before .before
     .before .judge .ensures) (c .before .before .before .before .before .before .before .if1 .left)
+    in
+    let same = c .before .before .before .before .before .record-of .ensures in
+    let made = c .before .before .before .before .shade-passed in
+    (words, shade-owed _ _ same _ _ _ (made .result) _ refl (made .ensures .0))
 
 tell-requires-2 : tie.Need-tell-requires-2
 tell-requires-2 c κs = search needs
@@ -53,9 +59,9 @@ returns-2 c =
     let done = c .before .before .before .before .before .before .shade-passed .ensures in (
       faces _ _ _ _ _ _ _ _ _ words same _ (c .before .before .before .before .before .before
           .shade-passed .result) _ (done .0)
-          (c .before .put .ensures .0) (c .tell2 .ensures .0),
+          (c .before .put-owed .ensures .0) (c .tell2 .ensures .0),
       (
-        λ h. c .before .put .ensures .1,
+        λ h. c .before .put-owed .ensures .1,
         faces-count _ _ _ _ _ words same _ _ (c .tell2 .ensures .1 ∙ done .1),
       ),
     )
@@ -70,7 +76,7 @@ jenturik-shade-spec =
     returns
     record-of-requires
     shade-passed-requires
-    put-requires
+    put-owed-requires
     tell-requires-2
     same-length
     returns-2)

@@ -1,38 +1,13 @@
--- Four numbers are the answer's, and the fifth is the one given, in wider types.
-use mathlib.Core.Path.{refl}
+-- It is what `tell_narrow` ensures but for the bits.
 use borrow.Author.Needs.{needs}
 use Rattle.jenturik_c.proofs.tell.Statement.{statement}
 use Rattle.jenturik_c.proofs.tell.Tie as tie
 
-what-requires : tie.Need-what-requires
-what-requires c κs = search needs
-
-cast-t4 : tie.Need-cast-t4
-cast-t4 c = search needs
-
-code-requires : tie.Need-code-requires
-code-requires c κs = search needs
-
-cast-t6 : tie.Need-cast-t6
-cast-t6 c = search needs
-
-detail-requires : tie.Need-detail-requires
-detail-requires c κs = search needs
-
-cast-t8 : tie.Need-cast-t8
-cast-t8 c = search needs
-
-node-requires : tie.Need-node-requires
-node-requires c κs = search needs
-
-cast-t10 : tie.Need-cast-t10
-cast-t10 c = search needs
+tell-narrow-requires : tie.Need-tell-narrow-requires
+tell-narrow-requires c κs = search needs
 
 returns : tie.Need-returns
-returns c = (cc, refl)
+returns c = (c .tell-narrow .ensures .0, c .tell-narrow .ensures .1 .0)
 
 pub tell-spec : {M : Type 1} → statement M
-tell-spec =
-    tie.close
-    (tie.spec what-requires cast-t4 code-requires cast-t6 detail-requires cast-t8 node-requires
-    cast-t10 returns)
+tell-spec = tie.close (tie.spec tell-narrow-requires returns)

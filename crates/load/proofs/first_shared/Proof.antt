@@ -1,57 +1,34 @@
--- `first_shared` meets its contract: the lowest shared node from n on is the lowest of all.
-use mathlib.Core.Path.{_≡_, sym, _∙_}
-use Prim.Native.Nat.{_-_, _≤_}
+-- `first_shared` meets its contract: marked are the nodes that have a number in the definition's
+-- numbering.
+use mathlib.Core.Path.{_∙_}
 use native.Mathlib.Omega.{arith}
-use Rattle.rules.specs.Meet.{lowest}
-use Rattle.rules.specs.Load.{isShared, firstShared}
-use Rattle.reach.proofs.Lowests.{lowest-start, lowest-here, lowest-next, lowest-none}
+use borrow.Author.Needs.{needs}
+use Rattle.load.proofs.Answers.{shared-same}
 use Rattle.load.proofs.first_shared.Statement.{statement}
 use Rattle.load.proofs.first_shared.Tie as tie
 
-abbrev Inv-loop : tie.InvT-loop
-Inv-loop free num m n₀ n = (n ≤ m) × (firstShared m free num ≡ lowest (isShared free num) (m - n) n)
+meet-requires : tie.Need-meet-requires
+meet-requires c κs =
+    let at-entry = c .before .before .before .before .before in (
+      omega arith,
+      (
+        omega arith,
+        (
+          omega arith,
+          (omega arith, (omega arith, (omega arith, at-entry .pre .1 .1 .1 .1 .1 .1 .1))),
+        ),
+      ),
+    )
 
-abbrev μ-loop : tie.MeasureT-loop
-μ-loop free num m n₀ n = m - n
+lowest-shared-requires : tie.Need-lowest-shared-requires
+lowest-shared-requires c κs = search needs
 
-loop-holds : tie.Need-loop-holds Inv-loop μ-loop
-unfolding firstShared
-loop-holds c = (omega arith, lowest-start _ _)
+same-length : tie.Need-same-length
+same-length c = search needs
 
-shared-requires : tie.Need-shared-requires Inv-loop μ-loop
-shared-requires c κs = omega arith
-
-returns : tie.Need-returns Inv-loop μ-loop
+returns : tie.Need-returns
 returns c =
-    lowest-here _ _ _ (omega arith) (sym (c .before .shared .ensures) ∙ c .if1 .taken)
-    ∙ sym (c .before .before .before .loop .inv .1)
-
-add-n : tie.Need-add-n Inv-loop μ-loop
-add-n c = omega arith
-
-loop-less : tie.Need-loop-less Inv-loop μ-loop
-loop-less c = omega arith
-
-loop-again : tie.Need-loop-again Inv-loop μ-loop
-loop-again c = (
-  omega arith,
-  c .before .before .before .loop .inv .1
-      ∙ lowest-next _ _ _ (omega arith) (sym (c .before .shared .ensures) ∙ c .if1 .left),
-)
-
-returns-2 : tie.Need-returns-2 Inv-loop μ-loop
-returns-2 c = lowest-none _ _ _ (omega arith) ∙ sym (c .before .loop .inv .1)
+    c .lowest-shared .ensures ∙ shared-same (c .before .before .before .before .meet .ensures) _
 
 pub first-shared-spec : {M : Type 1} → statement M
-first-shared-spec =
-    tie.close
-    (tie.spec
-    Inv-loop
-    μ-loop
-    loop-holds
-    shared-requires
-    returns
-    add-n
-    loop-less
-    loop-again
-    returns-2)
+first-shared-spec = tie.close (tie.spec meet-requires lowest-shared-requires same-length returns)

@@ -1,31 +1,111 @@
--- `judge` meets its contract: the marks are zeros at first, and the chain found is what is judged.
-use mathlib.Core.Path.{ap, _∙_}
-use mathlib.Core.List.{[], _∷_}
-use Rattle.rules.specs.Meet.{blank}
-use Rattle.rules.specs.Load.{Chained, judgeFree}
-use Rattle.load.proofs.Answers.{judge-passed}
+-- `judge` meets its contract: both pairs of arrays have a mark for each node, and are zeros.
+use mathlib.Core.Path.{_∙_}
+use native.Mathlib.Omega.{arith}
 use borrow.Author.Needs.{needs}
+use Rattle.reach.proofs.Meets.{zero-at}
+use Rattle.load.proofs.Answers.{judge-zeros}
 use Rattle.load.proofs.judge.Statement.{statement}
 use Rattle.load.proofs.judge.Tie as tie
 
-chain-requires : tie.Need-chain-requires
-chain-requires c κs = search needs
+slice-aggregate-judge-with : tie.Need-slice-aggregate-judge-with
+slice-aggregate-judge-with c = search needs
 
-judge-free-requires : tie.Need-judge-free-requires
-judge-free-requires c κs = search needs
+slice-aggregate-judge-with-2 : tie.Need-slice-aggregate-judge-with-2
+slice-aggregate-judge-with-2 c = search needs
+
+judge-with-requires : tie.Need-judge-with-requires
+judge-with-requires c κs =
+    let at-entry = c .before .before .before .before .before in (
+      omega (arith, at-entry .pre),
+      (
+        omega (arith, at-entry .pre),
+        (
+          omega (arith, at-entry .pre),
+          (
+            omega (arith, at-entry .pre),
+            (
+              omega (arith, at-entry .pre),
+              (
+                omega (arith, at-entry .pre),
+                (
+                  omega (arith, at-entry .pre),
+                  (
+                    λ n. zero-at 512 n,
+                    at-entry .pre .1 .1 .1 .1 .1,
+                  ),
+                ),
+              ),
+            ),
+          ),
+        ),
+      ),
+    )
 
 returns : tie.Need-returns
-unfolding blank
 returns c =
-    let at-chain = c .before .before in
-    let at-entry = at-chain .before .before .before .before in (
-      c .judge-free .ensures
-          ∙ ap (λ (w : Chained). judgeFree (at-entry .args .m) (at-entry .args .r)
-          (at-entry .args .left .now ∷ at-entry .args .right .now ∷ []) w)
-          (at-chain .chain .ensures .0),
-      λ q. at-chain .chain .ensures .1
-          (judge-passed _ _ _ _ _ (c .judge-free .ensures) q),
+    let at-with = c .before .before in
+    let at-entry = at-with .before .before .before .before .before .before in
+    let e = at-with .judge-with .ensures in (
+      e .0
+          ∙ judge-zeros _ _ _ _ (at-entry .pre .1 .1 .1 .1 .1) 512 (omega (arith, at-entry .pre))
+          (omega (arith, at-entry .pre)),
+      e .1,
+    )
+
+slice-aggregate-judge-with-3 : tie.Need-slice-aggregate-judge-with-3
+slice-aggregate-judge-with-3 c = search needs
+
+slice-aggregate-judge-with-4 : tie.Need-slice-aggregate-judge-with-4
+slice-aggregate-judge-with-4 c = search needs
+
+judge-with-requires-2 : tie.Need-judge-with-requires-2
+judge-with-requires-2 c κs =
+    let at-entry = c .before .before .before .before .before in (
+      omega (arith, at-entry .pre),
+      (
+        omega (arith, at-entry .pre),
+        (
+          omega (arith, at-entry .pre),
+          (
+            omega (arith, at-entry .pre),
+            (
+              omega (arith, at-entry .pre),
+              (
+                omega (arith, at-entry .pre),
+                (
+                  omega (arith, at-entry .pre),
+                  (
+                    λ n. zero-at 4096 n,
+                    at-entry .pre .1 .1 .1 .1 .1,
+                  ),
+                ),
+              ),
+            ),
+          ),
+        ),
+      ),
+    )
+
+returns-2 : tie.Need-returns-2
+returns-2 c =
+    let at-with = c .before .before in
+    let at-entry = at-with .before .before .before .before .before .before in
+    let e = at-with .judge-with2 .ensures in (
+      e .0
+          ∙ judge-zeros _ _ _ _ (at-entry .pre .1 .1 .1 .1 .1) 4096 (omega (arith, at-entry .pre))
+          (omega (arith, at-entry .pre)),
+      e .1,
     )
 
 pub judge-spec : {M : Type 1} → statement M
-judge-spec = tie.close (tie.spec chain-requires judge-free-requires returns)
+judge-spec =
+    tie.close
+    (tie.spec
+    slice-aggregate-judge-with
+    slice-aggregate-judge-with-2
+    judge-with-requires
+    returns
+    slice-aggregate-judge-with-3
+    slice-aggregate-judge-with-4
+    judge-with-requires-2
+    returns-2)

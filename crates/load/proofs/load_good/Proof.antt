@@ -1,84 +1,44 @@
--- `load_good` meets its contract: good edges have 16 bits, so that the narrowed lists are those
--- given.
-use mathlib.Core.Path.{refl}
+-- `load_good` meets its contract: both pairs of arrays have room for the edges of all nodes.
 use native.Mathlib.Omega.{arith}
-use Rattle.load.proofs.Laws.{copied-part, copied-room}
 use borrow.Author.Needs.{needs}
 use Rattle.load.proofs.load_good.Statement.{statement}
 use Rattle.load.proofs.load_good.Tie as tie
 
-narrow-requires : tie.Need-narrow-requires
-narrow-requires c κs =
-    let at-entry = c .before .before .before .before .before .before in (
+slice-aggregate-load-with : tie.Need-slice-aggregate-load-with
+slice-aggregate-load-with c = search needs
+
+slice-aggregate-load-with-2 : tie.Need-slice-aggregate-load-with-2
+slice-aggregate-load-with-2 c = search needs
+
+load-with-requires : tie.Need-load-with-requires
+load-with-requires c κs =
+    let at-entry = c .before .before .before .before .before .before .before .before .before
+    .before .before in (
       omega (arith, at-entry .pre),
       (
-        refl,
-        λ n. omega
-            (arith, at-entry .pre .1 .0, at-entry .pre .1 .1 .1 .1 .1 .1 .1 .1 .0 n),
-      ),
-    )
-
-narrow-requires-2 : tie.Need-narrow-requires-2
-narrow-requires-2 c κs =
-    let at-entry = c .before .before .before .before .before .before .before .before in (
-      omega (arith, at-entry .pre),
-      (
-        refl,
-        λ n. omega
-            (arith, at-entry .pre .1 .0, at-entry .pre .1 .1 .1 .1 .1 .1 .1 .1 .1 n),
-      ),
-    )
-
-sub-load-table : tie.Need-sub-load-table
-sub-load-table c = search needs
-
-part-load-table-start : tie.Need-part-load-table-start
-part-load-table-start c = search needs
-
-part-load-table-end : tie.Need-part-load-table-end
-part-load-table-end c =
-    let at-narrow = c .before .before .before in
-    omega (
-      arith,
-      copied-room _ _ (at-narrow .narrow .ensures),
-      at-narrow .before .before .before .before .before .before .before .pre,
-    )
-
-sub-load-table-2 : tie.Need-sub-load-table-2
-sub-load-table-2 c = search needs
-
-part-load-table-start-2 : tie.Need-part-load-table-start-2
-part-load-table-start-2 c = search needs
-
-part-load-table-end-2 : tie.Need-part-load-table-end-2
-part-load-table-end-2 c =
-    let at-narrow = c .before .before .before in
-    omega (
-      arith,
-      copied-room _ _ (at-narrow .narrow2 .ensures),
-      at-narrow .before .before .before .before .before .before .before .before .before .pre,
-    )
-
-load-table-requires : tie.Need-load-table-requires
-load-table-requires c κs =
-    let at-left = c .before .before .before .before .before .before .before .before .before in
-    let at-right = c .before .before .before .before .before .before .before in
-    let at-entry = at-left .before .before .before .before .before .before .before in
-    rw (
-      copied-part _ _ _ (at-entry .pre .1 .1 .1 .0) (at-left .narrow .ensures),
-      copied-part _ _ _
-          (at-entry .pre .1 .1 .1 .1 .0) (at-right .narrow2 .ensures),
-    ) (
-      omega arith,
-      (
-        omega arith,
+        omega (arith, at-entry .pre),
         (
-          omega arith,
+          omega (arith, at-entry .pre),
           (
-            omega arith,
+            omega (arith, at-entry .pre),
             (
-              omega arith,
-              (omega arith, (omega arith, (omega arith, at-entry .pre .1 .1 .1 .1 .1 .1 .1 .1 .0))),
+              omega (arith, at-entry .pre),
+              (
+                omega (arith, at-entry .pre),
+                (
+                  omega (arith, at-entry .pre),
+                  (
+                    omega (arith, at-entry .pre),
+                    (
+                      omega (arith, at-entry .pre),
+                      (
+                        omega (arith, at-entry .pre),
+                        at-entry .pre .1 .1 .1 .1 .1 .1 .1 .1,
+                      ),
+                    ),
+                  ),
+                ),
+              ),
             ),
           ),
         ),
@@ -95,35 +55,76 @@ same-length-3 : tie.Need-same-length-3
 same-length-3 c = search needs
 
 returns : tie.Need-returns
-returns c =
-    let at-table = c .before .before .before .before .before .before in
-    let at-left = at-table .before .before .before .before .before .before .before .before .before
-    .before in
-    let at-right = at-table .before .before .before .before .before .before .before .before in
-    let at-entry = at-left .before .before .before .before .before .before .before in (
-      rw (
-        copied-part _ _ _ (at-entry .pre .1 .1 .1 .0) (at-left .narrow .ensures),
-        copied-part _ _ _
-            (at-entry .pre .1 .1 .1 .1 .0) (at-right .narrow2 .ensures),
-      ) at
-          (at-table .load-table .ensures .0),
-      at-table .load-table .ensures .1,
+returns c = search needs
+
+slice-aggregate-load-with-3 : tie.Need-slice-aggregate-load-with-3
+slice-aggregate-load-with-3 c = search needs
+
+slice-aggregate-load-with-4 : tie.Need-slice-aggregate-load-with-4
+slice-aggregate-load-with-4 c = search needs
+
+load-with-requires-2 : tie.Need-load-with-requires-2
+load-with-requires-2 c κs =
+    let at-entry = c .before .before .before .before .before .before .before .before .before
+    .before .before in (
+      omega (arith, at-entry .pre),
+      (
+        omega (arith, at-entry .pre),
+        (
+          omega (arith, at-entry .pre),
+          (
+            omega (arith, at-entry .pre),
+            (
+              omega (arith, at-entry .pre),
+              (
+                omega (arith, at-entry .pre),
+                (
+                  omega (arith, at-entry .pre),
+                  (
+                    omega (arith, at-entry .pre),
+                    (
+                      omega (arith, at-entry .pre),
+                      (
+                        omega (arith, at-entry .pre),
+                        at-entry .pre .1 .1 .1 .1 .1 .1 .1 .1,
+                      ),
+                    ),
+                  ),
+                ),
+              ),
+            ),
+          ),
+        ),
+      ),
     )
+
+same-length-4 : tie.Need-same-length-4
+same-length-4 c = search needs
+
+same-length-5 : tie.Need-same-length-5
+same-length-5 c = search needs
+
+same-length-6 : tie.Need-same-length-6
+same-length-6 c = search needs
+
+returns-2 : tie.Need-returns-2
+returns-2 c = search needs
 
 pub load-good-spec : {M : Type 1} → statement M
 load-good-spec =
     tie.close
     (tie.spec
-    narrow-requires
-    narrow-requires-2
-    sub-load-table
-    part-load-table-start
-    part-load-table-end
-    sub-load-table-2
-    part-load-table-start-2
-    part-load-table-end-2
-    load-table-requires
+    slice-aggregate-load-with
+    slice-aggregate-load-with-2
+    load-with-requires
     same-length
     same-length-2
     same-length-3
-    returns)
+    returns
+    slice-aggregate-load-with-3
+    slice-aggregate-load-with-4
+    load-with-requires-2
+    same-length-4
+    same-length-5
+    same-length-6
+    returns-2)

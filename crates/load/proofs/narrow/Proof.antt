@@ -9,14 +9,14 @@ use Rattle.load.proofs.narrow.Statement.{statement}
 use Rattle.load.proofs.narrow.Tie as tie
 
 abbrev Inv-loop : tie.InvT-loop
-Inv-loop given edges₀ n₀ edges n = (n ≤ length given) × (length edges ≡ 4096) ×
+Inv-loop given edges₀ n₀ edges n = (n ≤ length given) × (length edges ≡ length edges₀) ×
     (take n edges ≡ take n given)
 
 abbrev μ-loop : tie.MeasureT-loop
 μ-loop given edges₀ n₀ edges n = length given - n
 
 loop-holds : tie.Need-loop-holds Inv-loop μ-loop
-loop-holds c = (omega arith, omega arith, refl)
+loop-holds c = (omega arith, refl, refl)
 
 mul-edges : tie.Need-mul-edges Inv-loop μ-loop
 mul-edges c = omega arith
@@ -25,13 +25,13 @@ shared-slice-read-edges : tie.Need-shared-slice-read-edges Inv-loop μ-loop
 shared-slice-read-edges c = omega arith
 
 cast-edges : tie.Need-cast-edges Inv-loop μ-loop
-cast-edges c = omega (arith, c .before .before .before .pre .1 .1 (c .before .before .loop .n))
+cast-edges c = omega (arith, c .before .before .before .pre .1 (c .before .before .loop .n))
 
 mul-edges-2 : tie.Need-mul-edges-2 Inv-loop μ-loop
 mul-edges-2 c = omega arith
 
-element-write-edges : tie.Need-element-write-edges Inv-loop μ-loop
-element-write-edges c = omega arith
+slice-write-edges : tie.Need-slice-write-edges Inv-loop μ-loop
+slice-write-edges c = omega arith
 
 add-n : tie.Need-add-n Inv-loop μ-loop
 add-n c = omega arith
@@ -49,6 +49,9 @@ loop-again c = (
       refl,
 )
 
+same-length : tie.Need-same-length Inv-loop μ-loop
+same-length c = omega arith
+
 returns : tie.Need-returns Inv-loop μ-loop
 returns c =
     copied-front (c .before .before .args .given .now) (c .before .loop .edges) (c .before .loop .n)
@@ -65,8 +68,9 @@ narrow-spec =
     shared-slice-read-edges
     cast-edges
     mul-edges-2
-    element-write-edges
+    slice-write-edges
     add-n
     loop-less
     loop-again
+    same-length
     returns)

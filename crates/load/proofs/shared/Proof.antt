@@ -5,18 +5,15 @@ use borrow.Author.Needs.{needs}
 use Rattle.load.proofs.shared.Statement.{statement}
 use Rattle.load.proofs.shared.Tie as tie
 
-element-copy-out-if1 : tie.Need-element-copy-out-if1
-element-copy-out-if1 c = search needs
+shared-slice-read-if1 : tie.Need-shared-slice-read-if1
+shared-slice-read-if1 c = search needs
 
 returns : tie.Need-returns
 unfolding isShared
 returns c = search (tests, needs) depth 12
 
-mul-result : tie.Need-mul-result
-mul-result c = search needs
-
-element-copy-out-result : tie.Need-element-copy-out-result
-element-copy-out-result c = search needs
+shared-slice-read-result : tie.Need-shared-slice-read-result
+shared-slice-read-result c = search needs
 
 returns-2 : tie.Need-returns-2
 unfolding isShared
@@ -24,4 +21,4 @@ returns-2 c = search (tests, needs) depth 12
 
 pub shared-spec : {M : Type 1} → statement M
 shared-spec =
-    tie.close (tie.spec element-copy-out-if1 returns mul-result element-copy-out-result returns-2)
+    tie.close (tie.spec shared-slice-read-if1 returns shared-slice-read-result returns-2)

@@ -221,11 +221,12 @@ module _ {M : Type 1} (𝓤 : URA M) (H : Heap 𝓤) (A : Atoms 𝓤) (W : Given
   inside t on = loop.inside (x₀ .now) last sum (t .g) (table t) (t .inv) (ltb-true _ _ on)
 
   -- the sum is at most twice the number of steps, and so many bytes there are not
-  goes : (t : Here) → On t true → Goes (t .g)
+  goes : (t : Here) → On t true → Goes (t .g) (table t)
   goes t on =
       let few = loop.counted (x₀ .now) last sum (t .g) (table t) (t .inv) in
       let most = most-all (x₀ .now) (state (x₁ .now) (x₂ .now) (x₃ .now) h) in
-      record { before = ltb-true _ _ on; fits = omega (arith, few, most, room₀ .1) }
+      let code = loop.settled (x₀ .now) last sum (t .g) (table t) (t .inv) (ltb-true _ _ on) in
+      record { before = ltb-true _ _ on; fits = omega (arith, few, most, room₀ .1); code = code }
 
   span : (t : Here) → On t true → t .g .at * size < 2 ^ 64
   span t on = omega (arith, inside t on, room₀ .1)
