@@ -1,7 +1,5 @@
 // The schedule program without its reading and writing: a block of the input to its output. What a
 // block makes of where the run stands is defined in crate session.
-use rules::Owed;
-use rules::Phase;
 use rules::Record;
 use session::Run;
 use session::Session;
@@ -158,19 +156,7 @@ fn emptied(s: Session) -> Session
 pub fn start() -> Session
     ensures { λ s. ⌜ s ≡ started ⌝ }
 {
-    let rec = Record {
-        m: 0,
-        r: 0,
-        phase: Phase::Roots(0),
-        owed: Owed::Nothing,
-        last: 0,
-        steps: 0,
-        cycles: 0,
-        took: 0,
-        blackened: 0,
-        lastblackened: 0,
-        free: 0,
-    };
+    let rec = Record::fresh(0, 0, 0, 0);
     let run = Run {
         rec,
         at: 0,
