@@ -275,5 +275,5 @@ int main(void) {
     counted_edges();
     given_edges();
     texts();
-    return trial_close();
+    return tally();
 }

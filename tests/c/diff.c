@@ -10,6 +10,9 @@
 
 #define MOST 4200
 
+/* Plain C's, of apart.c. */
+__typeof__(jenturik_in_use) peer_in_use, peer_free_count;
+
 struct place {
     uint16_t left[MOST], right[MOST];
     uint8_t colour[MOST];
@@ -186,8 +189,9 @@ static int unlike(struct answer a, struct answer b, uint64_t *came) {
 
 /* The call that counts nodes otherwise than plain C on what is lent, if one does. */
 static const char *miscounts(const uint32_t *w) {
-    if (unlike(library_in_use(&t, w), plain_in_use(&t, w), in_use)) return "In use";
-    if (unlike(library_free_count(&t, w), plain_free_count(&t, w), free_count)) return "Free count";
+    if (unlike(asked(jenturik_in_use, &t, w), asked(peer_in_use, &t, w), in_use)) return "In use";
+    if (unlike(asked(jenturik_free_count, &t, w), asked(peer_free_count, &t, w), free_count))
+        return "Free count";
     return NULL;
 }
 

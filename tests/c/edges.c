@@ -435,5 +435,5 @@ int main(void) {
     fresh_edges();
     load_edges();
     in_use_edges();
-    return trial_close();
+    return tally();
 }

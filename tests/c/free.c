@@ -376,5 +376,5 @@ int main(void) {
     others_keep();
     along_runs(300);
     large_run();
-    return trial_close();
+    return tally();
 }

@@ -178,5 +178,5 @@ int main(void) {
     for (int i = 0; i < 300; i++) trial();
     for (int i = 0; i < 6; i++) check(codes[met[i]] > 100, "calls that end so", "code", met[i]);
     check(appended > 10000 && stopped > 1000, "nodes appended, and lists full", "freed", appended);
-    return trial_close();
+    return tally();
 }

@@ -13,16 +13,10 @@ static inline jenturik_last library_many(const struct table *t, uint32_t *w, siz
                                  n);
 }
 
-static inline struct answer library_in_use(const struct table *t, const uint32_t *w) {
-    jenturik_told a =
-        jenturik_in_use(t->left, t->lefts, t->right, t->rights, t->colour, t->colours, w);
-    struct answer all = {a.what, a.code, a.detail, a.node};
-    return all;
-}
-
-static inline struct answer library_free_count(const struct table *t, const uint32_t *w) {
-    jenturik_told a =
-        jenturik_free_count(t->left, t->lefts, t->right, t->rights, t->colour, t->colours, w);
+/* What a call that counts nodes answers. */
+static inline struct answer asked(__typeof__(jenturik_in_use) *call, const struct table *t,
+                                  const uint32_t *w) {
+    jenturik_told a = call(t->left, t->lefts, t->right, t->rights, t->colour, t->colours, w);
     struct answer all = {a.what, a.code, a.detail, a.node};
     return all;
 }

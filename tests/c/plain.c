@@ -1,5 +1,4 @@
 #include "plain.h"
-#include "jenturik.h"
 #include <string.h>
 
 static struct answer say(uint16_t kind, uint16_t code, uint16_t node) {
@@ -182,69 +181,4 @@ size_t plain_many(const struct table *t, struct record *x, size_t n, struct answ
         done++;
     }
     return done;
-}
-
-enum { NODES = 4096 };
-
-static int bad_edge(uint32_t e, uint32_t m) { return e >= m || e == 1; }
-
-/* The record that the words are, if they are one's. */
-static int read_record(struct record *x, const uint32_t *w) {
-    uint32_t wide = w[JENTURIK_NODES] | w[JENTURIK_SLOTS] | w[JENTURIK_I] | w[JENTURIK_K] |
-                    w[JENTURIK_OWED] | w[JENTURIK_LAST] | w[JENTURIK_BLACKENED] |
-                    w[JENTURIK_BLACKENED_LAST_CYCLE] | w[JENTURIK_FREE_COUNT],
-             unused = 0;
-    for (int i = JENTURIK_USED; i < JENTURIK_WORDS; i++) unused |= w[i];
-    if (wide > 65535 || unused != 0 || w[JENTURIK_PHASE] > SHADE_RIGHT || w[JENTURIK_OWES] > 1)
-        return 0;
-    if (w[JENTURIK_PHASE] != SCAN && !shades(w[JENTURIK_PHASE]) && w[JENTURIK_K] != 0) return 0;
-    if (w[JENTURIK_OWES] == 0 && w[JENTURIK_OWED] != 0) return 0;
-    x->m = w[JENTURIK_NODES], x->r = w[JENTURIK_SLOTS], x->phase = w[JENTURIK_PHASE];
-    x->i = w[JENTURIK_I], x->k = w[JENTURIK_K], x->owes = w[JENTURIK_OWES];
-    x->owed = w[JENTURIK_OWED], x->last = w[JENTURIK_LAST], x->steps = w[JENTURIK_STEPS];
-    x->cycles = w[JENTURIK_CYCLES], x->took = w[JENTURIK_TOOK];
-    x->blackened = w[JENTURIK_BLACKENED], x->lastblackened = w[JENTURIK_BLACKENED_LAST_CYCLE];
-    x->free = w[JENTURIK_FREE_COUNT];
-    return 1;
-}
-
-/* Counts what the slots reach, with a queue of the nodes whose edges are still to be followed; and
- * notes the lowest node that has a bad edge. */
-static struct answer count(const uint16_t *left, const uint16_t *right, uint32_t m, uint32_t r) {
-    uint8_t reached[NODES];
-    uint32_t queue[NODES], head = 0, tail = 0, hurt = m;
-    memset(reached, 0, m);
-    reached[0] = 1;
-    for (uint32_t n = 2; n < r + 2; n++) reached[n] = 1, queue[tail++] = n;
-    while (head < tail) {
-        uint32_t n = queue[head++], l = left[n], g = right[n];
-        if (bad_edge(l, m)) {
-            if (n < hurt) hurt = n;
-        } else if (!reached[l]) {
-            reached[l] = 1, queue[tail++] = l;
-        }
-        if (bad_edge(g, m)) {
-            if (n < hurt) hurt = n;
-        } else if (!reached[g]) {
-            reached[g] = 1, queue[tail++] = g;
-        }
-    }
-    return hurt < m ? refuse(7, hurt, !bad_edge(left[hurt], m)) : say(COUNTED, 0, tail - r);
-}
-
-/* The record of the words, and codes 1 and 2; words that form no record are code 2. */
-static int asked(const struct table *t, struct record *x, const uint32_t *words) {
-    return read_record(x, words) ? plain_check(t, x) : 2;
-}
-
-struct answer plain_in_use(const struct table *t, const uint32_t *words) {
-    struct record x;
-    int code = asked(t, &x, words);
-    return code ? say(REFUSED, code, 0) : count(t->left, t->right, x.m, x.r);
-}
-
-struct answer plain_free_count(const struct table *t, const uint32_t *words) {
-    struct record x;
-    int code = asked(t, &x, words);
-    return code ? say(REFUSED, code, 0) : say(COUNTED, 0, x.free);
 }

@@ -1,5 +1,5 @@
-/* The collector in plain C, to compare with: one step, many steps with memchr, In use and Free
-   count. peer.c has every call over words. */
+/* The collector in plain C over a record, to compare with: one step, and many with memchr. peer.c
+   has every call over words. */
 #ifndef PLAIN_H
 #define PLAIN_H
 #include <stddef.h>
@@ -41,7 +41,5 @@ struct table {
 
 int plain_check(const struct table *t, const struct record *x);
 struct answer plain_step(const struct table *t, struct record *x);
-struct answer plain_in_use(const struct table *t, const uint32_t *words);
-struct answer plain_free_count(const struct table *t, const uint32_t *words);
 size_t plain_many(const struct table *t, struct record *x, size_t n, struct answer *last);
 #endif

@@ -508,5 +508,5 @@ int main(void) {
     in_use_along_runs(2000);
     for (uint32_t kind = 0; kind < 6; kind++) unused_words(kind);
     reading_only();
-    return trial_close();
+    return tally();
 }

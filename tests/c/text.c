@@ -3,6 +3,7 @@
  * [Text 3], and a line's buffer of another length, which change nothing [Text 4]. It is run in the
  * project's folder. The last line is 'N passed, M failed'. */
 #define _DEFAULT_SOURCE
+#include "counting.h"
 #include "jenturik_text.h"
 
 #include <glob.h>
@@ -22,19 +23,8 @@ typedef struct {
     unsigned over;
 } run;
 
-static long passed, failed;
 static uint64_t seed = 88172645463325252u;
 static run one, two, before;
-
-static void check(int good, const char *what, const char *name, long n) {
-    if (good) {
-        passed++;
-        return;
-    }
-    failed++;
-    if (failed <= 20) printf("FAILED: %s, %s, %ld\n", what, name, n);
-    if (getenv("WRONG")) exit(1); /* one difference is enough to find a wrong library */
-}
 
 static size_t below(size_t n) {
     seed ^= seed << 13, seed ^= seed >> 7, seed ^= seed << 17;
@@ -247,6 +237,5 @@ int main(void) {
     together();
     stages();
     beside();
-    printf("%ld passed, %ld failed\n", passed, failed);
-    return failed == 0 ? 0 : 1;
+    return tally();
 }

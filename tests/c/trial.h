@@ -1,25 +1,13 @@
-/* What the tests of the calls share: counting, random numbers, sound tables. */
+/* What the tests of the calls share: random numbers, sound tables. */
 #ifndef TRIAL_H
 #define TRIAL_H
 
 #include "calls.h"
-#include <stdlib.h>
+#include "counting.h"
 
-static long passed, failed;
 static lent t;
 static table after;
 static uint64_t seed = 88172645463325252u;
-
-/* Counts a check; the first twenty that fail are told. */
-static inline void check(int good, const char *what, const char *name, long n) {
-    if (good) {
-        passed++;
-        return;
-    }
-    failed++;
-    if (failed <= 20) printf("FAILED: %s, %s, %ld\n", what, name, n);
-    if (getenv("WRONG")) exit(1); /* one difference is enough to find a wrong library */
-}
 
 static inline uint32_t below(uint32_t n) {
     seed ^= seed << 13, seed ^= seed >> 7, seed ^= seed << 17;
@@ -29,11 +17,6 @@ static inline uint32_t below(uint32_t n) {
 static inline void trial_open(void) {
     lent_open(&t);
     fence_open(&call_steps);
-}
-
-static inline int trial_close(void) {
-    printf("%ld passed, %ld failed\n", passed, failed);
-    return failed == 0 ? 0 : 1;
 }
 
 static inline void make_fresh(table *s, uint32_t m, uint32_t r) {
