@@ -49,15 +49,6 @@ visited m t s = split (Visited m t s) _ _ _
     split (Visited m t s) _ _ _ (λ b. newly (omega (arith, w, z)) (w .0) g (eqb-true _ _ b))
     (λ b. before g (eqb-false _ _ b)))
 
--- a node that has a number is not met again
-pub visit-again : (m t : ℕ) (s : Met) → numOf s t ≢ 0 → s ≡ visit m t s
-visit-again m t s h = go (visited m t s)
-  where
-    go : {s′ : Met} → Visited m t s s′ → s ≡ s′
-    go (nowhere a) = refl
-    go (before a b) = refl
-    go (newly a b c d) = absurd (h d)
-
 module _ {m : ℕ} {s : Met} (v : Kept m s) where
   -- a node without a number: there is room for one more
   pub room : (n : ℕ) → 2 ≤ n → n < m → numOf s n ≡ 0 → s .tail < m

@@ -275,20 +275,9 @@ unfolding visitSlots
 kept-slots zero h = kept-blank h
 kept-slots (suc k) h = kept-visit (k + 2) (kept-slots k h)
 
-pub slots-none : (m : ℕ) (a o : List ℕ) → a ≡ blank → o ≡ blank → met a o 2
-    ≡ visitSlots m 0 (met blank blank 2)
-unfolding visitSlots
-slots-none m a o p q = cc
-
 pub slots-next : (m k : ℕ) (s : Met) → visitSlots m (k + 1) s ≡ visit m (k + 2) (visitSlots m k s)
 unfolding visitSlots
 slots-next m k s = rw add-one
-
-pub slots-all : (m i r : ℕ) (x s : Met) → i ≤ r → r ≤ i → x ≡ visitSlots m i s → x
-    ≡ visitSlots m r s
-slots-all m i r x s a b e =
-    let q : i ≡ r = omega arith in
-    rw q at e
 
 pub from-stop : (m : ℕ) (es : List (List ℕ)) (f k : ℕ) (s : Met) → s .tail ≤ k → s
     ≡ visitFrom m es f k s

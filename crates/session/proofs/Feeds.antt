@@ -43,9 +43,6 @@ pub found : (input : List ℕ) (i e : ℕ) → e ≡ newlineFrom (drop i input) 
 found input i e q h =
     omega (arith, behind (drop i input) i, within (drop i input) i, length-drop i input)
 
-pub found-first : (input : List ℕ) (e : ℕ) → e ≡ newlineFrom input 0 → e ≤ length input
-found-first input e q = omega (arith, within input 0)
-
 -- a newline stands where one is found
 stands : (input : List ℕ) (i : ℕ) → newlineFrom input i - i < length input
     → getD input (newlineFrom input i - i) 0 ≡ newline
