@@ -1,1 +1,3 @@
 // No code: words for definitions by tests, and the rules by which proofs read them.
+
+#![tactic(auto)]

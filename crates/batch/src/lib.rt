@@ -1,5 +1,7 @@
 // Many collector steps in one call: what is judged at each step is judged once, and runs of steps
 // are made at once.
+#![tactic(auto)]
+
 ghost use Rattle.std.specs.Prelude.{◌≡◌, ◌+◌, ◌<◌, ◌≤◌};
 ghost use Rattle.rules.specs.Table.{most_slots, refused, state};
 ghost use Rattle.rules.specs.Check.{bound};
@@ -17,7 +19,7 @@ use rules::{Answer, Phase, Record};
 
 // How many steps were done, what the last one answered, or the one that was refused, how many
 // colours they changed in all, and the record.
-#[derive(Drop)]
+#[derive(Clone, Copy)]
 pub struct Many {
     pub done: usize,
     pub answer: Answer,

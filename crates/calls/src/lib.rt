@@ -1,4 +1,6 @@
 // A step by value: a kind and seven numbers, done by the call that the kind names.
+#![tactic(auto)]
+
 ghost use Rattle.std.specs.Prelude.{◌≡◌};
 ghost use Rattle.rules.specs.Steps.{step, source, target};
 ghost use Rattle.rules.specs.Table.{state};

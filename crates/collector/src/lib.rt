@@ -1,4 +1,6 @@
 // The collector: one call does one step, over three lent slices and a record that goes by value.
+#![tactic(auto)]
+
 ghost use Rattle.std.specs.Prelude.{◌≡◌, List, ℕ, ◌+◌, ◌<◌, ◌≤◌, length, set};
 ghost use Rattle.rules.specs.Table.{most_slots, table, state, handed, outcome, black};
 ghost use Rattle.rules.specs.Collector.{shade_step, after_roots, scan_step, read_step, black_step};

@@ -1,4 +1,6 @@
 // The lines of an export: their edges are kept in two lists, and after the last one Load answers.
+#![tactic(auto)]
+
 ghost use Rattle.std.specs.Prelude.{◌≡◌, List, true, ℕ, ◌+◌, ◌<◌, set, take, ltb, eqb};
 ghost use Rattle.base.specs.Choice.{pick};
 ghost use Rattle.rules.specs.Table.{state};

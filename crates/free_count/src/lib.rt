@@ -1,4 +1,6 @@
 // Free count: how many nodes are free, as the record has it. Nothing is written.
+#![tactic(auto)]
+
 ghost use Rattle.std.specs.Prelude.{◌≡◌};
 ghost use Rattle.rules.specs.Lent.{given};
 ghost use Rattle.rules.specs.FreeCount.{free_count};

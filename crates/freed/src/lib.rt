@@ -1,4 +1,6 @@
 // Many collector steps in one call, which notes the nodes that they append to the free list.
+#![tactic(auto)]
+
 ghost use Rattle.std.specs.Prelude.{◌≡◌, [], ◌++◌, ◌+◌, ◌-◌, ◌<◌, ◌≤◌, length, take, drop};
 ghost use Rattle.rules.specs.Table.{state};
 ghost use Rattle.freed.specs.Freed.{is_appended, appended_by, room_of, run_in, changes_in};
@@ -13,7 +15,7 @@ use rules::{Answer, Phase, Record};
 
 // How many steps were done, the code that ended them or 0, with its detail, how many colours they
 // changed in all, how many nodes they appended, and the record.
-#[derive(Drop)]
+#[derive(Clone, Copy)]
 pub struct Freed {
     pub done: usize,
     pub code: u8,

@@ -1,4 +1,6 @@
 // Fresh: a table with every node white and the free list in rising order, and its record.
+#![tactic(auto)]
+
 ghost use Rattle.std.specs.Prelude.{◌≡◌, [], ◌∷◌, ◌++◌, ◌+◌, ◌-◌, ◌≤◌, length, drop};
 ghost use Rattle.rules.specs.Table.{most_slots, state};
 ghost use Rattle.rules.specs.Records.{fresh_record};

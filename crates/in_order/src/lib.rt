@@ -1,4 +1,6 @@
 // Roots and Append on plain numbers, up to the last step of each.
+#![tactic(auto)]
+
 ghost use Rattle.std.specs.Prelude.{◌≡◌, ◌+◌, ◌-◌, ◌<◌, ◌≤◌, length};
 ghost use Rattle.rules.specs.Table.{most_nodes, state};
 ghost use Rattle.rules.specs.Facts.{many_steps};
@@ -15,7 +17,7 @@ use rules::{Phase, Record};
 
 // Where the appending stands: Append i, the end of the free list, and how many nodes are free. Each
 // step moves i by one, and appends a node or changes a colour, so neither number is kept.
-#[derive(Drop)]
+#[derive(Clone, Copy)]
 struct AppendAt {
     i: usize,
     last: usize,
@@ -23,7 +25,7 @@ struct AppendAt {
 }
 
 // Nodes shaded, and how many colours that changed.
-#[derive(Drop)]
+#[derive(Clone, Copy)]
 struct Shaded {
     d: usize,
     changed: usize,

@@ -1,4 +1,6 @@
 // The collector for a frame loop: the record is lent, and changed in place.
+#![tactic(auto)]
+
 ghost use Rattle.std.specs.Prelude.{◌≡◌};
 ghost use Rattle.rules.specs.Table.{outcome};
 ghost use Rattle.rules.specs.Steps.{step, collecting};

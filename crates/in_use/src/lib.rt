@@ -1,4 +1,6 @@
 // In use: how many nodes slots reach at the moment of asking. Nothing is written.
+#![tactic(auto)]
+
 ghost use Rattle.std.specs.Prelude.{◌≡◌, List, [], ◌∷◌, ℕ, ◌+◌, ◌<◌, ◌≤◌, length, get_or, true};
 ghost use Rattle.base.specs.Lent.{was};
 ghost use Rattle.rules.specs.Table.{most_nodes, most_slots, bad_edge};

@@ -3,6 +3,8 @@
 // is only what the system does. A call that is interrupted is made again, and a write that took a
 // part goes on behind it. A program has no exit status: one line on standard error says how the run
 // ended, unless all was answered.
+#![tactic(auto)]
+
 ghost use Rattle.std.specs.Prelude.{◌≤◌, length};
 ghost use Rattle.base.specs.Lent.{was, is};
 
@@ -15,7 +17,7 @@ const BLOCK: usize = 16384;
 const OUT: usize = 360448;
 
 // How a run stands: it goes on, or has ended so.
-#[derive(Drop)]
+#[derive(Clone, Copy)]
 pub enum Standing {
     Going,
     Answered,
@@ -26,7 +28,7 @@ pub enum Standing {
 }
 
 // Where a block led, and how the run stands.
-#[derive(Drop)]
+#[derive(Clone, Copy)]
 pub struct Led {
     pub s: Session,
     pub standing: Standing,

@@ -1,5 +1,7 @@
 // The library for callers in C: each call over three slices and the record's words, which the
 // caller keeps.
+#![tactic(auto)]
+
 ghost use Rattle.std.specs.Prelude.{◌≡◌, [], ◌∷◌, ◌+◌, ◌*◌, ◌/◌, ◌<◌, ◌≤◌, length, eqb, true};
 ghost use Rattle.base.specs.Choice.{pick};
 ghost use Rattle.rules.specs.Fresh.{fresh};
@@ -56,7 +58,7 @@ const NO_KIND: u32 = 4294967295;
 // What a call answers: what was done (0: refused), the code, the detail, the node, and how many
 // colours it changed.
 #[repr(C)]
-#[derive(Drop)]
+#[derive(Clone, Copy)]
 pub struct Told {
     pub what: u32,
     pub code: u16,
@@ -68,7 +70,7 @@ pub struct Told {
 // What a schedule answers: how many steps were done, the code that ended it, or 0, the detail, and
 // how many colours they changed in all.
 #[repr(C)]
-#[derive(Drop)]
+#[derive(Clone, Copy)]
 pub struct Done {
     pub done: usize,
     pub code: u16,
@@ -80,7 +82,7 @@ pub struct Done {
 // all, and what the last one answers, or the one that was refused. The byte `code` has the code in
 // its lower five bits and the detail in its upper three.
 #[repr(C)]
-#[derive(Drop)]
+#[derive(Clone, Copy)]
 pub struct Last {
     pub done: usize,
     pub changed: u32,
@@ -93,7 +95,7 @@ pub struct Last {
 // how many colours they changed in all, how many nodes became free, the code that ended them, or 0,
 // and the detail.
 #[repr(C)]
-#[derive(Drop)]
+#[derive(Clone, Copy)]
 pub struct Freed {
     pub done: usize,
     pub changed: u32,

@@ -1,5 +1,7 @@
 // The schedule program for callers in C and JavaScript: a block of the input to its output, over
 // buffers and a session's words, which the caller keeps.
+#![tactic(auto)]
+
 ghost use Rattle.std.specs.Prelude.{◌≡◌, true};
 ghost use Rattle.session.specs.Feeding.{held};
 ghost use Rattle.base.specs.Lent.{was, is};
@@ -27,7 +29,7 @@ const AT: usize = 27;
 // What a block answers: how many bytes of the output are printed, the code, and whether the run is
 // over: 0 it goes on, 1 the first line was refused, 2 the export was.
 #[repr(C)]
-#[derive(Drop)]
+#[derive(Clone, Copy)]
 pub struct Turned {
     pub used: usize,
     pub code: u16,

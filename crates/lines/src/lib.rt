@@ -1,5 +1,7 @@
 // What a line of the schedule program does: the first, a later one, and the last of an export. The
 // definitions are in specs/.
+#![tactic(auto)]
+
 ghost use Rattle.std.specs.Prelude.{◌≡◌, ℕ, ◌+◌, ◌≤◌, ◌<◌, List, [], ◌∷◌, length, take, drop};
 ghost use Rattle.rules.specs.Table.{state, outcome};
 ghost use Rattle.rules.specs.Fresh.{fresh};
@@ -14,7 +16,7 @@ use rules::{Made, Ran, Record};
 use text::Said;
 
 // What a line prints, and the record that it leaves.
-#[derive(Drop)]
+#[derive(Clone, Copy)]
 pub struct Told {
     pub code: u8,
     pub node: u16,

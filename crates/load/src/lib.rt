@@ -1,4 +1,6 @@
 // Load: a table from lists of edges, which are judged first.
+#![tactic(auto)]
+
 ghost use Rattle.std.specs.Prelude.{◌≡◌, List, [], ◌∷◌, ℕ, ◌+◌, ◌<◌, ◌≤◌, length, get_or, take, true};
 ghost use Rattle.rules.specs.Table.{most_nodes, most_slots, handed, refused_with, refused};
 ghost use Rattle.rules.specs.Meet.{blank, meet, any_edge, first_side};
@@ -12,7 +14,7 @@ ghost use Rattle.rules.specs.Lent.{leaves};
 use rules::{Answer, Made, Record};
 
 // What the lists are answered with, and how many nodes are free where they are accepted.
-#[derive(Drop)]
+#[derive(Clone, Copy)]
 struct Found {
     answer: Answer,
     free: u16,

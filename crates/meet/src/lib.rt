@@ -1,4 +1,6 @@
 // What slots reach, in the order met: one primitive for whoever asks for it.
+#![tactic(auto)]
+
 ghost use Rattle.std.specs.Prelude.{◌≡◌, [], ◌∷◌, ℕ, ◌+◌, ◌-◌, ◌<◌, ◌≤◌, length, get_or};
 ghost use Rattle.base.specs.Choice.{pick};
 ghost use Rattle.base.specs.Lent.{was, is};
@@ -17,14 +19,14 @@ const MANY: usize = rules::MOST_NODES + 2;
 
 // What is known after a visit: the number that a node gets next, and the lowest node visited that
 // has a bad edge; m where there is none.
-#[derive(Drop)]
+#[derive(Clone, Copy)]
 pub struct Visited {
     pub tail: usize,
     pub hurt: u16,
 }
 
 // The same, and the number of the node whose edges come next.
-#[derive(Drop)]
+#[derive(Clone, Copy)]
 struct Seen {
     next: usize,
     tail: usize,

@@ -1,5 +1,7 @@
 // Places and walks; the codes that a place, a side and a shade owed give; the source of a step that
 // changes an edge.
+#![tactic(auto)]
+
 ghost use Rattle.std.specs.Prelude.{◌≡◌, [], ◌∷◌, ◌+◌, ◌<◌, ◌≤◌, length};
 ghost use Rattle.rules.specs.Table.{most_nodes, edge_of};
 ghost use Rattle.rules.specs.Places.{turns_ok, place_code, start, walk_from};
@@ -10,7 +12,7 @@ ghost use Rattle.base.specs.Lent.{was};
 use rules::{Owed, Place, Record, Walk};
 
 // The source of a step that changes an edge; or the code that refuses it, with a node and a detail.
-#[derive(Drop)]
+#[derive(Clone, Copy)]
 pub enum Source {
     Found(u16),
     Missing(u8, u16, u8),

@@ -1,4 +1,6 @@
 // The record as 32-bit words, for callers that have no enums.
+#![tactic(auto)]
+
 ghost use Rattle.std.specs.Prelude.{◌≡◌, true, not, [], ◌∷◌, ◌+◌, ◌<◌, ◌≤◌, ltb, eqb, set};
 ghost use Rattle.base.specs.Choice.{every};
 ghost use Rattle.record_words.specs.Words.{owes_of, owed_of, laid_out, words_of};

@@ -1,6 +1,8 @@
 // The types. The rules as definitions are in specs/; what is here is the record's test and its
 // steps, and an answer's numbers.
 
+#![tactic(auto)]
+
 ghost use Rattle.std.specs.Prelude.{◌≡◌, [], ◌∷◌, ◌+◌, ◌*◌, ◌<◌, ◌≤◌, ltb, eqb, not};
 ghost use Rattle.rules.specs.Table.{most_nodes, most_slots, FREE, refused_with, refused};
 ghost use Rattle.rules.specs.Table.{refusal_with, refusal};
@@ -57,7 +59,7 @@ const SHADE_RIGHT_TAG: u32 = 7;
 pub const MOST_TAG: u32 = 7;
 
 // Where the collector is: eight cases, each with its own position.
-#[derive(Drop)]
+#[derive(Clone, Copy)]
 pub enum Phase {
     Roots(u16),
     Scan(u16, u16),
@@ -70,14 +72,14 @@ pub enum Phase {
 }
 
 // The shade owed: nothing, or a node. NIL may be owed.
-#[derive(Drop)]
+#[derive(Clone, Copy)]
 pub enum Owed {
     Nothing,
     Node(u16),
 }
 
 // What travels beside the table, by value.
-#[derive(Drop)]
+#[derive(Clone, Copy)]
 pub struct Record {
     pub m: u16,
     pub r: u16,
@@ -94,7 +96,7 @@ pub struct Record {
 
 // What a call did and to which node, or how many nodes it counted, or the code that refuses it,
 // with a node and a detail.
-#[derive(Drop)]
+#[derive(Clone, Copy)]
 pub enum Answer {
     Started(u16),
     Named(u16),
@@ -110,7 +112,7 @@ pub enum Answer {
 }
 
 // What every call hands back; `changed` is the number of colours that it changed.
-#[derive(Drop)]
+#[derive(Clone, Copy)]
 pub struct Made {
     pub answer: Answer,
     pub changed: u8,
@@ -118,14 +120,14 @@ pub struct Made {
 }
 
 // What a call hands back whose record is lent.
-#[derive(Drop)]
+#[derive(Clone, Copy)]
 pub struct Told {
     pub answer: Answer,
     pub changed: u8,
 }
 
 // A slot, a count of turns and the turns, lowest bit first.
-#[derive(Drop)]
+#[derive(Clone, Copy)]
 pub struct Place {
     pub slot: u32,
     pub count: u32,
@@ -133,14 +135,14 @@ pub struct Place {
 }
 
 // Where a walk ends, or the node whose edge is bad and the side of that edge.
-#[derive(Drop)]
+#[derive(Clone, Copy)]
 pub enum Walk {
     At(u16),
     Damaged(u16, u8),
 }
 
 // A step as a kind and seven numbers: 0 take, 1 link, 2 shade, 3 collect, 4 look.
-#[derive(Drop)]
+#[derive(Clone, Copy)]
 pub struct Step {
     pub kind: u32,
     pub slot: u32,
@@ -154,7 +156,7 @@ pub struct Step {
 
 // What a run of steps hands back: how many were done, the code that ended it or 0, with its detail,
 // how many colours they changed in all, and the record.
-#[derive(Drop)]
+#[derive(Clone, Copy)]
 pub struct Ran {
     pub done: usize,
     pub code: u8,

@@ -1,4 +1,6 @@
 // Scan on plain numbers: runs of looks at once, and a gray node's six steps at once.
+#![tactic(auto)]
+
 ghost use Rattle.std.specs.Prelude.{◌≡◌, true, ℕ, ◌+◌, ◌-◌, ◌<◌, ◌≤◌, ◌%◌, length, get_or, set};
 ghost use Rattle.rules.specs.Table.{most_nodes, state, shade_in};
 ghost use Rattle.rules.specs.Facts.{many_steps};
@@ -16,7 +18,7 @@ use rules::{Phase, Record};
 
 // Where the marking stands: Scan i, k; nodes blackened; steps made here; how many colours stop a
 // look, at most; the node that was made gray last; and how many colours the steps changed.
-#[derive(Drop)]
+#[derive(Clone, Copy)]
 struct ScanAt {
     i: usize,
     k: usize,
@@ -180,7 +182,7 @@ fn newer(e: u16, f: u16, b: usize) -> usize
 }
 
 // How many nodes were made gray, and one of them.
-#[derive(Drop)]
+#[derive(Clone, Copy)]
 struct Grayed {
     more: usize,
     node: usize,
@@ -230,7 +232,7 @@ fn visit(left: &[u16], right: &[u16], colour: &mut [u8], x: Record, cap: usize, 
 
 // Where a chain of nodes is followed: the node visited last; the one it made gray, which is the
 // only gray one; steps made; nodes blackened.
-#[derive(Drop)]
+#[derive(Clone, Copy)]
 struct Chain {
     last: usize,
     gray: usize,

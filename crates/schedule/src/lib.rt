@@ -1,4 +1,6 @@
 // A schedule: a lent run of steps, done in order until one is refused.
+#![tactic(auto)]
+
 ghost use Rattle.std.specs.Prelude.{◌≡◌, [], ◌∷◌, ◌+◌, ◌<◌};
 ghost use Rattle.rules.specs.declared.Made.{Made};
 ghost use Rattle.rules.specs.Table.{state};
@@ -14,7 +16,7 @@ use rules::{Made, Phase, Ran, Record, Step};
 
 // Where a run stands: the next step, the step before which it ends, the code and its detail, how
 // many colours were changed, and the record.
-#[derive(Drop)]
+#[derive(Clone, Copy)]
 pub struct Going {
     pub at: usize,
     pub end: usize,

@@ -1,5 +1,7 @@
 // The lines of a table: the first one, which makes it, and the steps, a line at a time up to a
 // block's end.
+#![tactic(auto)]
+
 ghost use Rattle.std.specs.Prelude.{◌≡◌, List, ℕ, ◌<◌, length, take, drop, eqb};
 ghost use Rattle.base.specs.Choice.{pick};
 ghost use Rattle.rules.specs.Table.{state};
@@ -15,7 +17,7 @@ use rules::Record;
 use session::{Run, Session, Stage};
 
 // The position of the next byte, and where the bytes before it led.
-#[derive(Drop)]
+#[derive(Clone, Copy)]
 pub struct Fed {
     pub next: usize,
     pub run: Run,

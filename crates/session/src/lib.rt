@@ -1,5 +1,7 @@
 // Where a run of the schedule program stands: which line is awaited, and what goes on beside the
 // buffers. What a block of the input makes of it is defined in specs/.
+#![tactic(auto)]
+
 ghost use Rattle.std.specs.Prelude.{◌≡◌, min, drop};
 ghost use Rattle.session.specs.Feeding.{newline_from};
 ghost use Rattle.base.specs.Lent.{was};
@@ -10,7 +12,7 @@ const NEWLINE: u8 = 10;
 
 // What goes on from line to line beside the buffers: the record, the bytes of the line at hand, and
 // those of the output that are used.
-#[derive(Drop)]
+#[derive(Clone, Copy)]
 pub struct Run {
     pub rec: Record,
     pub at: usize,
@@ -20,7 +22,7 @@ pub struct Run {
 // The first line is awaited; there is a table of so many nodes, and a step is awaited or line 0 of
 // an export; line n of an export; a step; the run is over, since the first line is refused; it is
 // over, since the export is.
-#[derive(Drop)]
+#[derive(Clone, Copy)]
 pub enum Stage {
     Opening,
     Second(usize),
@@ -31,7 +33,7 @@ pub enum Stage {
 }
 
 // What goes on from block to block beside the buffers.
-#[derive(Drop)]
+#[derive(Clone, Copy)]
 pub struct Session {
     pub stage: Stage,
     pub run: Run,

@@ -1,4 +1,6 @@
 // Runs of colours that a look passes over.
+#![tactic(auto)]
+
 ghost use Rattle.std.specs.Prelude.{◌≡◌, ◌+◌, ◌<◌, ◌≤◌, length};
 ghost use Rattle.skim.specs.Stops.{stop, stops, block};
 ghost use Rattle.base.specs.Lent.{was};

@@ -1,4 +1,6 @@
 // The leaves that read and write the node table.
+#![tactic(auto)]
+
 ghost use Rattle.std.specs.Prelude.{◌≡◌, ℕ, ◌<◌, List, [], ◌∷◌, length};
 ghost use Rattle.rules.specs.Table.{state, edge_of, with_edge, bad_edge, shade_in};
 ghost use Rattle.rules.specs.Changes.{differing};

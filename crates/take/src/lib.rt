@@ -1,4 +1,6 @@
 // Take, over three lent slices and a record that goes by value.
+#![tactic(auto)]
+
 ghost use Rattle.std.specs.Prelude.{◌≡◌, [], ◌∷◌, ◌+◌, ◌<◌, ◌≤◌, length};
 ghost use Rattle.rules.specs.Table.{most_slots, state, edge_of, shade_in};
 ghost use Rattle.rules.specs.Check.{check};

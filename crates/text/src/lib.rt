@@ -1,5 +1,7 @@
 // A schedule's text: a line's bytes to what it says, and an answer to its line of bytes. The forms
 // of the lines are definitions in specs/.
+#![tactic(auto)]
+
 ghost use Rattle.std.specs.Prelude.{◌≡◌, ◌+◌, ◌<◌, ◌≤◌, length};
 ghost use Rattle.text.specs.Grammar.{byte_at, after, is_digit, digits_at, number_at, side_at};
 ghost use Rattle.text.specs.Grammar.{letters_at, turns_at, place_at, take_line, link_line};
@@ -27,7 +29,7 @@ const COUNT: u32 = 1000000;
 const MANY_WORDS: u32 = 4096;
 
 // What a line says.
-#[derive(Drop)]
+#[derive(Clone, Copy)]
 pub enum Said {
     First(u32, u32),
     Do(Step),
@@ -36,21 +38,21 @@ pub enum Said {
 }
 
 // A number, and the position behind it.
-#[derive(Drop)]
+#[derive(Clone, Copy)]
 pub struct Number {
     pub value: u32,
     pub at: usize,
 }
 
 // A side, and the position behind it.
-#[derive(Drop)]
+#[derive(Clone, Copy)]
 pub struct Side {
     pub side: u32,
     pub at: usize,
 }
 
 // Turns, and the position behind them.
-#[derive(Drop)]
+#[derive(Clone, Copy)]
 pub struct Turns {
     pub count: u32,
     pub word: u32,
@@ -58,7 +60,7 @@ pub struct Turns {
 }
 
 // A place, and the position behind it.
-#[derive(Drop)]
+#[derive(Clone, Copy)]
 pub struct Spot {
     pub slot: u32,
     pub count: u32,
@@ -67,7 +69,7 @@ pub struct Spot {
 }
 
 // M and R, and the position behind them.
-#[derive(Drop)]
+#[derive(Clone, Copy)]
 pub struct Sizes {
     pub nodes: u32,
     pub slots: u32,
@@ -75,14 +77,14 @@ pub struct Sizes {
 }
 
 // A step, and the position behind it.
-#[derive(Drop)]
+#[derive(Clone, Copy)]
 pub struct Form {
     pub step: Step,
     pub at: usize,
 }
 
 // A node and its edges, and the position behind them.
-#[derive(Drop)]
+#[derive(Clone, Copy)]
 pub struct Row {
     pub node: u32,
     pub left: u32,
@@ -91,7 +93,7 @@ pub struct Row {
 }
 
 // What a line of an export says: the edges of the node that is due, or anything else.
-#[derive(Drop)]
+#[derive(Clone, Copy)]
 pub enum Listed {
     Edges(u32, u32),
     Stray,

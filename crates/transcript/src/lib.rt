@@ -1,5 +1,7 @@
 // The schedule program without its reading and writing: a block of the input to its output. What a
 // block makes of where the run stands is defined in crate session.
+#![tactic(auto)]
+
 ghost use Rattle.std.specs.Prelude.{◌≡◌, List, ℕ, ◌<◌, length, get_or, take};
 ghost use Rattle.session.specs.Feeding.{stand, emptied, block, bare, closed, finish, turn};
 ghost use Rattle.session.specs.Feeding.{is_over, is_stopped, started};
@@ -13,7 +15,7 @@ use session::{Run, Session, Stage};
 pub const LINE: usize = 81;
 
 // The position of the next byte, and where the session stands then.
-#[derive(Drop)]
+#[derive(Clone, Copy)]
 pub struct Led {
     pub next: usize,
     pub s: Session,
@@ -21,7 +23,7 @@ pub struct Led {
 
 // What the line at hand is: the first, line n of an export of a table of m entries, a step of such
 // a table, or none that is read.
-#[derive(Drop)]
+#[derive(Clone, Copy)]
 pub enum Form {
     First,
     Entry(usize, usize),

@@ -1,0 +1,13 @@
+-- Each return is a case of the definition.
+use borrow.Author.Rules.{rules}
+use Rattle.base.proofs.Tests.{tests}
+use Rattle.rules.proofs.read_ok.Goals as goal
+
+pub returns-then-m-i : goal.returns-then-m-i
+returns-then-m-i c = search (tests, rules) depth 12
+
+pub returns-then-n-eq1 : goal.returns-then-n-eq1
+returns-then-n-eq1 c = search (tests, rules) depth 12
+
+pub returns : goal.returns
+returns c = search (tests, rules) depth 12
