@@ -11,7 +11,6 @@ ghost use Rattle.rules.specs.declared.Answer.TheVariants.{Named};
 ghost use Rattle.ahead.specs.Leads.{lasted, more, Passes, Room, Leads};
 ghost use Rattle.batch.specs.Last.{many, last_answer};
 ghost use Rattle.batch.specs.StrideAndStep.{StrideAndStep};
-ghost use Rattle.base.specs.Lent.{is};
 ghost use Rattle.rules.specs.Lent.{given};
 
 use ahead::Ahead;
@@ -31,8 +30,9 @@ pub struct Many {
 fn stride(left: &mut [u16], right: &mut [u16], colour: &mut [u8], x: Record, cap: usize) -> Ahead
     requires passes { Passes (state left.old right.old colour.old x) }
     requires room { Room x cap }
-    ensures { (result.d ≤ cap) × Leads (given left right colour x) result.d result.changed
-        (state (is left) (is right) (is colour) result.rec) }
+    ensures { (result.d ≤ cap) × Leads (given left.old right.old colour.old x) result.d
+        result.changed
+        (state left.new right.new colour.new result.rec) }
 {
     if cap == 0 {
         return Ahead {
@@ -65,8 +65,9 @@ fn stride_and_step(
 ) -> Many
     requires passes { Passes (state left.old right.old colour.old x) }
     requires b_value { b ≡ bound 2 x.m x.r }
-    ensures { (result.done ≤ most) × StrideAndStep b (given left right colour x) result.done
-        result.changed result.answer (state (is left) (is right) (is colour) result.rec) }
+    ensures { (result.done ≤ most) × StrideAndStep b (given left.old right.old colour.old x)
+        result.done
+        result.changed result.answer (state left.new right.new colour.new result.rec) }
 {
     let near = b - 1 - x.steps;
     let l = stride(left, right, colour, x, ahead::least(most, near as usize));
@@ -106,9 +107,11 @@ pub fn all_steps(
 ) -> Many
     requires passes { Passes (state left.old right.old colour.old x) }
     requires b_value { b ≡ bound 2 x.m x.r }
-    ensures rec_value { lasted result.done result.answer (state (is left) (is right) (is colour) result.rec)
-        ≡ more n 0 (Named 0) (given left right colour x) }
-    ensures changed_value { result.changed ≡ changes_all (collects n) (given left right colour x) }
+    ensures rec_value { lasted result.done result.answer (state left.new right.new colour.new
+        result.rec)
+        ≡ more n 0 (Named 0) (given left.old right.old colour.old x) }
+    ensures changed_value { result.changed
+        ≡ changes_all (collects n) (given left.old right.old colour.old x) }
 {
     let mut rec = x;
     let mut answer = Answer::Named(0);
@@ -154,10 +157,11 @@ pub fn collect_many(
     x: Record,
     n: usize,
 ) -> Many
-    ensures colour_value { (many result (is left) (is right) (is colour)
-        ≡ schedule (collects n) (given left right colour x)) × (result.answer
-        ≡ last_answer n (given left right colour x)) }
-    ensures changed_value { result.changed ≡ changes_all (collects n) (given left right colour x) }
+    ensures colour_value { (many result left.new right.new colour.new
+        ≡ schedule (collects n) (given left.old right.old colour.old x)) × (result.answer
+        ≡ last_answer n (given left.old right.old colour.old x)) }
+    ensures changed_value { result.changed
+        ≡ changes_all (collects n) (given left.old right.old colour.old x) }
 {
     let code = rules::check(left.len(), right.len(), colour.len(), x);
     if code != 0 {

@@ -51,8 +51,9 @@ pub fn step_passed(
     a: Step,
 ) -> Made
     requires { 0 ≡ check (state left.old right.old colour.old x) }
-    ensures colour_value { leaves result left right colour ≡ step a (given left right colour x) }
-    ensures changed_value { result.changed ≡ changes a (given left right colour x) }
+    ensures colour_value { leaves result left.new right.new colour.new
+        ≡ step a (given left.old right.old colour.old x) }
+    ensures changed_value { result.changed ≡ changes a (given left.old right.old colour.old x) }
 {
     let kind = a.kind;
     if kind == 0 {
@@ -76,8 +77,9 @@ pub fn step_passed(
 
 // One step.
 pub fn step(left: &mut [u16], right: &mut [u16], colour: &mut [u8], x: Record, a: Step) -> Made
-    ensures colour_value { leaves result left right colour ≡ step a (given left right colour x) }
-    ensures changed_value { result.changed ≡ changes a (given left right colour x) }
+    ensures colour_value { leaves result left.new right.new colour.new
+        ≡ step a (given left.old right.old colour.old x) }
+    ensures changed_value { result.changed ≡ changes a (given left.old right.old colour.old x) }
 {
     let code = rules::check(left.len(), right.len(), colour.len(), x);
     if code != 0 {

@@ -9,7 +9,6 @@ ghost use Rattle.rules.specs.Steps.{step, collecting};
 ghost use Rattle.rules.specs.Changes.{differing, changes};
 ghost use Rattle.rules.specs.Facts.{many_steps, Checked, InRange};
 ghost use Rattle.rules.specs.declared.Phase.TheVariants.{Scan};
-ghost use Rattle.base.specs.Lent.{was, is};
 ghost use Rattle.rules.specs.Lent.{given, leaves};
 
 use rules::{Answer, Made, Phase, Record};
@@ -18,9 +17,9 @@ use rules::{Answer, Made, Phase, Record};
 fn shade_step(colour: &mut [u8], x: Record, n: u16, then: Phase) -> Made
     requires checked { Checked x.m x.m (length colour.old) x }
     requires n_lt_m { n < x.m }
-    ensures by_index { (es : List (List ℕ)) → handed result es (is colour)
-        ≡ shade_step (table es (was colour) x) n then }
-    ensures changed_value { result.changed ≡ differing (was colour) (is colour) }
+    ensures by_index { (es : List (List ℕ)) → handed result es colour.new
+        ≡ shade_step (table es colour.old x) n then }
+    ensures changed_value { result.changed ≡ differing colour.old colour.new }
 {
     let at = n as usize;
     if 2 < colour[at] {
@@ -51,8 +50,8 @@ fn after_roots(m: u16, r: u16, i: u16) -> Phase
 fn scan_step(colour: &[u8], x: Record, i: u16, k: u16) -> Made
     requires checked { Checked x.m x.m (length colour.now) x }
     requires in_range { InRange x.m x.r (Scan i k) }
-    ensures by_index { (es : List (List ℕ)) → handed result es (was colour)
-        ≡ scan_step (table es (was colour) x) i k }
+    ensures by_index { (es : List (List ℕ)) → handed result es colour.now
+        ≡ scan_step (table es colour.now x) i k }
     ensures changed_value { result.changed ≡ 0 }
 {
     let at = i as usize;
@@ -100,8 +99,8 @@ fn read_step(x: Record, i: u16, side: u8, e: u16, then: Phase) -> Made
 // [Changes 1] Makes node n black, whatever its colour: 1 where it was not, else 0.
 fn blacken(colour: &mut [u8], n: u16) -> u8
     requires { n < length colour.old }
-    ensures colour_value { is colour ≡ set (was colour) n black }
-    ensures value { result ≡ differing (was colour) (is colour) }
+    ensures colour_value { colour.new ≡ set colour.old n black }
+    ensures value { result ≡ differing colour.old colour.new }
 {
     let at = n as usize;
     if colour[at] == 2 {
@@ -115,9 +114,9 @@ fn blacken(colour: &mut [u8], n: u16) -> u8
 fn black_step(colour: &mut [u8], x: Record, i: u16) -> Made
     requires checked { Checked x.m x.m (length colour.old) x }
     requires i_lt_m { i < x.m }
-    ensures by_index { (es : List (List ℕ)) → handed result es (is colour)
-        ≡ black_step (table es (was colour) x) i }
-    ensures changed_value { result.changed ≡ differing (was colour) (is colour) }
+    ensures by_index { (es : List (List ℕ)) → handed result es colour.new
+        ≡ black_step (table es colour.old x) i }
+    ensures changed_value { result.changed ≡ differing colour.old colour.new }
 {
     let changed = blacken(colour, i);
     Made {
@@ -131,8 +130,8 @@ fn black_step(colour: &mut [u8], x: Record, i: u16) -> Made
 fn append_white(left: &mut [u16], right: &mut [u16], x: Record, i: u16) -> Made
     requires checked { Checked (length left.old) (length right.old) x.m x }
     requires i_lt_m { i < x.m }
-    ensures by_index { (c : List ℕ) → outcome result (is left) (is right) c
-        ≡ append_white (state (was left) (was right) c x) i }
+    ensures by_index { (c : List ℕ) → outcome result left.new right.new c
+        ≡ append_white (state left.old right.old c x) i }
     ensures changed_value { result.changed ≡ 0 }
 {
     let at = i as usize;
@@ -157,8 +156,9 @@ fn append_white(left: &mut [u16], right: &mut [u16], x: Record, i: u16) -> Made
 fn append_step(left: &mut [u16], right: &mut [u16], colour: &mut [u8], x: Record, i: u16) -> Made
     requires checked { Checked (length left.old) (length right.old) (length colour.old) x }
     requires i_lt_m { i < x.m }
-    ensures colour_value { leaves result left right colour ≡ append_step (given left right colour x) i }
-    ensures changed_value { result.changed ≡ differing (was colour) (is colour) }
+    ensures colour_value { leaves result left.new right.new colour.new
+        ≡ append_step (given left.old right.old colour.old x) i }
+    ensures changed_value { result.changed ≡ differing colour.old colour.new }
 {
     let at = i as usize;
     if colour[at] == 2 {
@@ -188,8 +188,9 @@ pub fn phase_step(
 ) -> Made
     requires checked { Checked (length left.old) (length right.old) (length colour.old) x }
     requires in_range { InRange x.m x.r phase }
-    ensures colour_value { leaves result left right colour ≡ phase_step (given left right colour x) phase }
-    ensures changed_value { result.changed ≡ differing (was colour) (is colour) }
+    ensures colour_value { leaves result left.new right.new colour.new
+        ≡ phase_step (given left.old right.old colour.old x) phase }
+    ensures changed_value { result.changed ≡ differing colour.old colour.new }
 {
     match phase {
         Phase::Roots(i) => shade_step(colour, x, i, after_roots(x.m, x.r, i)),
@@ -212,8 +213,10 @@ pub fn phase_step(
 // One step of the collector. Refused: 1 and 2 for the sizes and the record, 7, 14 and 15 where a
 // value that the step reads is bad.
 pub fn collect(left: &mut [u16], right: &mut [u16], colour: &mut [u8], x: Record) -> Made
-    ensures colour_value { leaves result left right colour ≡ step collecting (given left right colour x) }
-    ensures changed_value { result.changed ≡ changes collecting (given left right colour x) }
+    ensures colour_value { leaves result left.new right.new colour.new
+        ≡ step collecting (given left.old right.old colour.old x) }
+    ensures changed_value { result.changed
+        ≡ changes collecting (given left.old right.old colour.old x) }
 {
     let code = rules::check(left.len(), right.len(), colour.len(), x);
     if code != 0 {

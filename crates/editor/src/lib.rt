@@ -9,7 +9,6 @@ ghost use Rattle.rules.specs.Steps.{step, looking, linking, shading};
 ghost use Rattle.rules.specs.Changes.{differing, changes};
 ghost use Rattle.rules.specs.Facts.{Checked, Owable};
 ghost use Rattle.rules.specs.declared.Record.{Record};
-ghost use Rattle.base.specs.Lent.{was, is};
 ghost use Rattle.rules.specs.Lent.{given};
 
 use places::Source;
@@ -18,9 +17,10 @@ use rules::{Answer, Made, Owed, Place, Record, Walk};
 // Look, where neither code 1 nor 2 is given.
 pub fn look_passed(left: &[u16], right: &[u16], colour: &[u8], x: Record, p: Place) -> Made
     requires { 0 ≡ check (state left.now right.now colour.now x) }
-    ensures colour_value { outcome result (was left) (was right) (was colour)
-        ≡ step (looking p) (given left right colour x) }
-    ensures changed_value { result.changed ≡ changes (looking p) (given left right colour x) }
+    ensures colour_value { outcome result left.now right.now colour.now
+        ≡ step (looking p) (given left.now right.now colour.now x) }
+    ensures changed_value { result.changed
+        ≡ changes (looking p) (given left.now right.now colour.now x) }
 {
     let code = places::place_code(x.r, p);
     if code != 0 {
@@ -39,9 +39,10 @@ pub fn look_passed(left: &[u16], right: &[u16], colour: &[u8], x: Record, p: Pla
 
 // Names the node at a place.
 pub fn look(left: &[u16], right: &[u16], colour: &[u8], x: Record, p: Place) -> Made
-    ensures colour_value { outcome result (was left) (was right) (was colour)
-        ≡ step (looking p) (given left right colour x) }
-    ensures changed_value { result.changed ≡ changes (looking p) (given left right colour x) }
+    ensures colour_value { outcome result left.now right.now colour.now
+        ≡ step (looking p) (given left.now right.now colour.now x) }
+    ensures changed_value { result.changed
+        ≡ changes (looking p) (given left.now right.now colour.now x) }
 {
     let code = rules::check(left.len(), right.len(), colour.len(), x);
     if code != 0 {
@@ -56,8 +57,8 @@ fn link_to(left: &mut [u16], right: &mut [u16], x: Record, side: u32, q: Place, 
     requires slot_lt_r { q.slot < x.r }
     requires n_lt_m { n < x.m }
     requires side_bound { side < 2 }
-    ensures by_index { (c : List ℕ) → outcome result (is left) (is right) c
-        ≡ link_to (state (was left) (was right) c x) side q n }
+    ensures by_index { (c : List ℕ) → outcome result left.new right.new c
+        ≡ link_to (state left.old right.old c x) side q n }
     ensures changed_value { result.changed ≡ 0 }
 {
     let to = places::walk(left, right, x.m, q);
@@ -80,9 +81,9 @@ fn link_from(left: &mut [u16], right: &mut [u16], x: Record, p: Place, side: u32
     requires slot_lt_r { p.slot < x.r }
     requires slot_lt_r_2 { q.slot < x.r }
     requires side_bound { side < 2 }
-    ensures by_index { (c : List ℕ) → outcome result (is left) (is right) c
-        ≡ depart (state (was left) (was right) c x) p
-        (link_to (state (was left) (was right) c x) side q) }
+    ensures by_index { (c : List ℕ) → outcome result left.new right.new c
+        ≡ depart (state left.old right.old c x) p
+        (link_to (state left.old right.old c x) side q) }
     ensures changed_value { result.changed ≡ 0 }
 {
     let from = places::depart(left, right, x.m, p);
@@ -103,9 +104,10 @@ pub fn link_passed(
     q: Place,
 ) -> Made
     requires { 0 ≡ check (state left.old right.old colour.now x) }
-    ensures colour_value { outcome result (is left) (is right) (was colour)
-        ≡ step (linking p side q) (given left right colour x) }
-    ensures changed_value { result.changed ≡ changes (linking p side q) (given left right colour x) }
+    ensures colour_value { outcome result left.new right.new colour.now
+        ≡ step (linking p side q) (given left.old right.old colour.now x) }
+    ensures changed_value { result.changed
+        ≡ changes (linking p side q) (given left.old right.old colour.now x) }
 {
     let target = places::place_code(x.r, q);
     let code = places::edit_code(x, p, side, target);
@@ -125,9 +127,10 @@ pub fn link(
     side: u32,
     q: Place,
 ) -> Made
-    ensures colour_value { outcome result (is left) (is right) (was colour)
-        ≡ step (linking p side q) (given left right colour x) }
-    ensures changed_value { result.changed ≡ changes (linking p side q) (given left right colour x) }
+    ensures colour_value { outcome result left.new right.new colour.now
+        ≡ step (linking p side q) (given left.old right.old colour.now x) }
+    ensures changed_value { result.changed
+        ≡ changes (linking p side q) (given left.old right.old colour.now x) }
 {
     let code = rules::check(left.len(), right.len(), colour.len(), x);
     if code != 0 {
@@ -139,9 +142,9 @@ pub fn link(
 // Shades the node owed; refused 6 where nothing is.
 fn pay(colour: &mut [u8], x: Record, owed: Owed) -> Made
     requires { Owable (length colour.old) owed }
-    ensures by_index { (es : List (List ℕ)) → handed result es (is colour)
-        ≡ pay (table es (was colour) x) owed }
-    ensures changed_value { result.changed ≡ differing (was colour) (is colour) }
+    ensures by_index { (es : List (List ℕ)) → handed result es colour.new
+        ≡ pay (table es colour.old x) owed }
+    ensures changed_value { result.changed ≡ differing colour.old colour.new }
 {
     match owed {
         Owed::Nothing => rules::refusal(6, 0, x),
@@ -163,9 +166,10 @@ fn pay(colour: &mut [u8], x: Record, owed: Owed) -> Made
 // Shade, where neither code 1 nor 2 is given.
 pub fn shade_passed(left: &[u16], right: &[u16], colour: &mut [u8], x: Record) -> Made
     requires { 0 ≡ check (state left.now right.now colour.old x) }
-    ensures colour_value { outcome result (was left) (was right) (is colour)
-        ≡ step shading (given left right colour x) }
-    ensures changed_value { result.changed ≡ changes shading (given left right colour x) }
+    ensures colour_value { outcome result left.now right.now colour.new
+        ≡ step shading (given left.now right.now colour.old x) }
+    ensures changed_value { result.changed
+        ≡ changes shading (given left.now right.now colour.old x) }
 {
     let owed = x.owed;
     pay(colour, x, owed)
@@ -173,9 +177,10 @@ pub fn shade_passed(left: &[u16], right: &[u16], colour: &mut [u8], x: Record) -
 
 // Shades the node owed, and nothing is owed afterwards.
 pub fn shade(left: &[u16], right: &[u16], colour: &mut [u8], x: Record) -> Made
-    ensures colour_value { outcome result (was left) (was right) (is colour)
-        ≡ step shading (given left right colour x) }
-    ensures changed_value { result.changed ≡ changes shading (given left right colour x) }
+    ensures colour_value { outcome result left.now right.now colour.new
+        ≡ step shading (given left.now right.now colour.old x) }
+    ensures changed_value { result.changed
+        ≡ changes shading (given left.now right.now colour.old x) }
 {
     let code = rules::check(left.len(), right.len(), colour.len(), x);
     if code != 0 {

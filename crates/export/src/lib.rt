@@ -8,7 +8,6 @@ ghost use Rattle.text.specs.Grammar.{is_export, entry};
 ghost use Rattle.lines.specs.Lines.{loaded};
 ghost use Rattle.session.specs.Feeding.{standing, stand, stopped, filled, noting};
 ghost use Rattle.export.specs.Replaces.{Replaces};
-ghost use Rattle.base.specs.Lent.{was, is};
 ghost use Rattle.rules.specs.Lent.{given};
 
 use lines::Told;
@@ -18,7 +17,7 @@ use text::Listed;
 
 // Whether the first at bytes of the line begin an export.
 pub fn is_export(line: &[u8], at: usize) -> bool
-    ensures { result ≡ is_export (take at (was line)) }
+    ensures { result ≡ is_export (take at line.now) }
 {
     let end = session::least(at, line.len());
     text::is_export(&line[0..end])
@@ -26,8 +25,8 @@ pub fn is_export(line: &[u8], at: usize) -> bool
 
 // The export ends the run.
 pub fn stop(out: &mut [u8], g: Run, m: usize) -> Session
-    ensures { (l r c ls rs line : List ℕ) → stand result l r c ls rs line (is out)
-        ≡ stopped m (standing (Stage.Serving m) g l r c ls rs line (was out)) }
+    ensures { (l r c ls rs line : List ℕ) → stand result l r c ls rs line out.new
+        ≡ stopped m (standing (Stage.Serving m) g l r c ls rs line out.old) }
 {
     let used = text::say(out, g.used, 10, 0);
     let rec = g.rec;
@@ -47,9 +46,9 @@ fn load_part(
     m: usize,
     n: usize,
 ) -> Told
-    ensures { Replaces m (loaded (take n (was lefts)) (take n (was rights)))
-        (given left right colour x) result.code result.node
-        (state (is left) (is right) (is colour) result.rec) }
+    ensures { Replaces m (loaded (take n lefts.now) (take n rights.now))
+        (given left.old right.old colour.old x) result.code result.node
+        (state left.new right.new colour.new result.rec) }
 {
     let a = session::least(m, left.len());
     let b = session::least(m, right.len());
@@ -88,9 +87,9 @@ fn fill(
     m: usize,
 ) -> Session
     ensures { (line : List ℕ)
-        → stand result (is left) (is right) (is colour) (was lefts) (was rights) line (is out)
-        ≡ filled m (standing (Stage.Serving m) g (was left) (was right) (was colour) (was lefts)
-        (was rights) line (was out)) }
+        → stand result left.new right.new colour.new lefts.now rights.now line out.new
+        ≡ filled m (standing (Stage.Serving m) g left.old right.old colour.old lefts.now
+        rights.now line out.old) }
 {
     let x = g.rec;
     let n = x.m;
@@ -103,7 +102,7 @@ fn fill(
 }
 
 fn keep(list: &mut [u32], n: usize, e: u32)
-    ensures { is list ≡ set (was list) n e }
+    ensures { list.new ≡ set list.old n e }
 {
     if n < list.len() {
         list[n] = e;
@@ -112,7 +111,7 @@ fn keep(list: &mut [u32], n: usize, e: u32)
 
 // Line n of an export has these edges.
 fn note(lefts: &mut [u32], rights: &mut [u32], n: usize, l: u32, r: u32)
-    ensures { (is lefts ≡ set (was lefts) n l) × (is rights ≡ set (was rights) n r) }
+    ensures { (lefts.new ≡ set lefts.old n l) × (rights.new ≡ set rights.old n r) }
 {
     keep(lefts, n, l);
     keep(rights, n, r);
@@ -134,7 +133,7 @@ fn more(m: u16, n: usize) -> bool
 
 // What the first at bytes of the line say, as line n of an export.
 fn entry_of(line: &[u8], at: usize, n: usize) -> Listed
-    ensures { result ≡ entry (take at (was line)) n }
+    ensures { result ≡ entry (take at line.now) n }
 {
     let end = session::least(at, line.len());
     text::entry(&line[0..end], n)
@@ -153,10 +152,10 @@ pub fn load_line(
     m: usize,
     n: usize,
 ) -> Session
-    ensures { stand result (is left) (is right) (is colour) (is lefts) (is rights) (was line)
-        (is out)
-        ≡ noting m n (entry (take g.at (was line)) n) (standing (Stage.Serving m) g (was left)
-        (was right) (was colour) (was lefts) (was rights) (was line) (was out)) }
+    ensures { stand result left.new right.new colour.new lefts.new rights.new line.now
+        out.new
+        ≡ noting m n (entry (take g.at line.now) n) (standing (Stage.Serving m) g left.old
+        right.old colour.old lefts.old rights.old line.now out.old) }
 {
     let listed = entry_of(line, g.at, n);
     let rec = g.rec;

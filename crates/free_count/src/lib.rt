@@ -9,7 +9,7 @@ use rules::{Answer, Record};
 
 // How many nodes are free; the free chain is not walked. Refused: 1, 2.
 pub fn free_count(left: &[u16], right: &[u16], colour: &[u8], x: Record) -> Answer
-    ensures { result ≡ free_count (given left right colour x) }
+    ensures { result ≡ free_count (given left.now right.now colour.now x) }
 {
     let code = rules::check(left.len(), right.len(), colour.len(), x);
     if code != 0 {

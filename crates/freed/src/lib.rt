@@ -7,7 +7,6 @@ ghost use Rattle.freed.specs.Freed.{is_appended, appended_by, room_of, run_in, c
 ghost use Rattle.freed.specs.Freed.{appended_in, noted, freed};
 ghost use Rattle.rules.specs.Facts.{quiet};
 ghost use Rattle.freed.specs.Gathers.{gathered, gather, dark, far, Turn};
-ghost use Rattle.base.specs.Lent.{was, is};
 ghost use Rattle.rules.specs.Lent.{given};
 
 use batch::Many;
@@ -61,7 +60,7 @@ fn quiet(x: Record) -> u16
 // How many colours from i on, in a row and at most most, are not white.
 fn until_white(colour: &[u8], i: usize, most: usize) -> usize
     requires { i + most ≤ length colour.now }
-    ensures { (result ≤ most) × (result ≤ dark most i (was colour)) }
+    ensures { (result ≤ most) × (result ≤ dark most i colour.now) }
 {
     let mut n = 0;
     while n < most {
@@ -76,7 +75,7 @@ fn until_white(colour: &[u8], i: usize, most: usize) -> usize
 // The same of the colours before end.
 fn dark(colour: &[u8], i: usize, end: usize, most: usize) -> usize
     requires { end ≤ length colour.now }
-    ensures { (result ≤ most) × (result ≤ dark (end - i) i (was colour)) }
+    ensures { (result ≤ most) × (result ≤ dark (end - i) i colour.now) }
 {
     if end <= i {
         return 0;
@@ -86,7 +85,7 @@ fn dark(colour: &[u8], i: usize, end: usize, most: usize) -> usize
 
 // So many steps, at most most, append nothing.
 fn far(colour: &[u8], x: Record, most: usize) -> usize
-    ensures { (result ≤ most) × (result ≤ far x.m (was colour) x.phase) }
+    ensures { (result ≤ most) × (result ≤ far x.m colour.now x.phase) }
 {
     let m = x.m;
     let phase = x.phase;
@@ -104,8 +103,9 @@ fn far(colour: &[u8], x: Record, most: usize) -> usize
 // At most n steps, of which only the last can append a node.
 fn turn(left: &mut [u16], right: &mut [u16], colour: &mut [u8], x: Record, n: usize) -> Many
     requires { 1 ≤ n }
-    ensures { Turn (given left right colour x) n result.done result.changed result.answer
-        (state (is left) (is right) (is colour) result.rec) }
+    ensures { Turn (given left.old right.old colour.old x) n result.done result.changed
+        result.answer
+        (state left.new right.new colour.new result.rec) }
 {
     let before = far(colour, x, n - 1);
     batch::collect_many(left, right, colour, x, before + 1)
@@ -116,8 +116,8 @@ fn note(list: &mut [u16], count: u16, a: Answer) -> u16
     requires count_in_bounds { count < length list.old }
     requires count_bound { count < 65535 }
     ensures value { result ≡ count + length (appended_by a) }
-    ensures list_value { take result (is list) ≡ take count (was list) ++ appended_by a }
-    ensures list_value_2 { drop result (is list) ≡ drop result (was list) }
+    ensures list_value { take result list.new ≡ take count list.old ++ appended_by a }
+    ensures list_value_2 { drop result list.new ≡ drop result list.old }
 {
     if !is_appended(a) {
         return count;
@@ -148,10 +148,11 @@ fn turns(
     room: u16,
 ) -> Freed
     requires { room ≤ length list.old }
-    ensures count_in_bounds { result.count ≤ length (is list) }
-    ensures list_value { gathered (freed result (is left) (is right) (is colour)) result.changed
-        (take result.count (is list)) ≡ gather n room 0 0 [] (given left right colour x) }
-    ensures list_value_2 { drop result.count (is list) ≡ drop result.count (was list) }
+    ensures count_in_bounds { result.count ≤ length list.new }
+    ensures list_value { gathered (freed result left.new right.new colour.new) result.changed
+        (take result.count list.new)
+        ≡ gather n room 0 0 [] (given left.old right.old colour.old x) }
+    ensures list_value_2 { drop result.count list.new ≡ drop result.count list.old }
 {
     let mut rec = x;
     let mut done = 0;
@@ -196,12 +197,15 @@ pub fn collect_freed(
     n: usize,
     list: &mut [u16],
 ) -> Freed
-    ensures colour_value { freed result (is left) (is right) (is colour)
-        ≡ run_in n (was list) (given left right colour x) }
-    ensures changed_value { result.changed ≡ changes_in n (was list) (given left right colour x) }
-    ensures list_value { is list ≡ noted (appended_in n (was list) (given left right colour x))
-        (was list) }
-    ensures count_value { result.count ≡ length (appended_in n (was list) (given left right colour x)) }
+    ensures colour_value { freed result left.new right.new colour.new
+        ≡ run_in n list.old (given left.old right.old colour.old x) }
+    ensures changed_value { result.changed
+        ≡ changes_in n list.old (given left.old right.old colour.old x) }
+    ensures list_value { list.new
+        ≡ noted (appended_in n list.old (given left.old right.old colour.old x))
+        list.old }
+    ensures count_value { result.count
+        ≡ length (appended_in n list.old (given left.old right.old colour.old x)) }
 {
     let code = rules::check(left.len(), right.len(), colour.len(), x);
     if code != 0 {

@@ -6,7 +6,6 @@ ghost use Rattle.rules.specs.Table.{most_slots, state};
 ghost use Rattle.rules.specs.Records.{fresh_record};
 ghost use Rattle.rules.specs.Fresh.{tabulate, next_free, fresh_left, no_edge, all_white};
 ghost use Rattle.rules.specs.Fresh.{fresh_last, fresh_state, fresh};
-ghost use Rattle.base.specs.Lent.{was, is};
 ghost use Rattle.rules.specs.Lent.{leaves};
 
 use rules::{Answer, Made, Record};
@@ -17,7 +16,7 @@ fn link_free(left: &mut [u16], m: u16, r: u16) -> u16
     requires left_len { length left.old ≡ m }
     requires r_bound { r + 2 ≤ m }
     ensures value { result ≡ next_free m (r + 1) }
-    ensures left_value { tabulate (fresh_left m r) (r + 2) ++ drop (r + 2) (is left)
+    ensures left_value { tabulate (fresh_left m r) (r + 2) ++ drop (r + 2) left.new
         ≡ tabulate (fresh_left m r) m }
 {
     let roots = r + 2;
@@ -39,7 +38,7 @@ fn link_free(left: &mut [u16], m: u16, r: u16) -> u16
 // Clears the first n edges.
 fn clear(edges: &mut [u16], n: u16)
     requires { n ≤ length edges.old }
-    ensures { is edges ≡ tabulate no_edge n ++ drop n (was edges) }
+    ensures { edges.new ≡ tabulate no_edge n ++ drop n edges.old }
 {
     let mut i = n as usize;
     while 0 < i {
@@ -50,7 +49,7 @@ fn clear(edges: &mut [u16], n: u16)
 
 // Makes every node white.
 pub fn whiten(colour: &mut [u8])
-    ensures { is colour ≡ tabulate all_white (length (was colour)) }
+    ensures { colour.new ≡ tabulate all_white (length colour.old) }
 {
     let mut n = colour.len();
     while 0 < n {
@@ -65,7 +64,7 @@ fn fill(left: &mut [u16], right: &mut [u16], colour: &mut [u8], m: u16, r: u16)
     requires right_len { length right.old ≡ m }
     requires colour_len { length colour.old ≡ m }
     requires r_bound { r + 2 ≤ m }
-    ensures { state (is left) (is right) (is colour)
+    ensures { state left.new right.new colour.new
         (fresh_record m r (fresh_last m r) (m - (r + 2)))
         ≡ fresh_state 2 m r }
 {
@@ -91,8 +90,8 @@ fn last_of(m: u16, r: u16) -> u16
 
 // A fresh table of m nodes and r slots, and its record. Refused: 1.
 pub fn fresh(left: &mut [u16], right: &mut [u16], colour: &mut [u8], m: usize, r: usize) -> Made
-    ensures colour_value { leaves result left right colour
-        ≡ fresh m r (was left ∷ was right ∷ []) (was colour) }
+    ensures colour_value { leaves result left.new right.new colour.new
+        ≡ fresh m r (left.old ∷ right.old ∷ []) colour.old }
     ensures changed_value { result.changed ≡ 0 }
 {
     if !rules::size_ok(m, r, left.len(), right.len(), colour.len()) {

@@ -9,7 +9,6 @@ ghost use Rattle.rules.specs.declared.Phase.TheVariants.{Roots, Append};
 ghost use Rattle.ahead.specs.Leads.{Passes, Room, Leads};
 ghost use Rattle.in_order.specs.Sweeping.{rooted, Shades, swept, CanAppend};
 ghost use Rattle.in_order.specs.Sweeping.{AppendLeads, Whitens};
-ghost use Rattle.base.specs.Lent.{was, is};
 ghost use Rattle.rules.specs.Lent.{given};
 
 use ahead::Ahead;
@@ -35,7 +34,7 @@ struct Shaded {
 fn shading(colour: &mut [u8], i: usize, cap: usize) -> Shaded
     requires cap_in_bounds { i + cap ≤ length colour.old }
     requires colour_len_bound { length colour.old ≤ most_nodes }
-    ensures { (result.d ≤ cap) × Shades (was colour) i cap result.d result.changed (is colour) }
+    ensures { (result.d ≤ cap) × Shades colour.old i cap result.d result.changed colour.new }
 {
     let mut d = 0;
     let mut changed = 0;
@@ -80,8 +79,9 @@ pub fn roots(left: &[u16], right: &[u16], colour: &mut [u8], x: Record, i: u16, 
     requires passes { Passes (state left.now right.now colour.old x) }
     requires room { Room x cap }
     requires phase_value { x.phase ≡ Roots i }
-    ensures { (result.d ≤ cap) × Leads (given left right colour x) result.d result.changed
-        (state (was left) (was right) (is colour) result.rec) }
+    ensures { (result.d ≤ cap) × Leads (given left.now right.now colour.old x) result.d
+        result.changed
+        (state left.now right.now colour.new result.rec) }
 {
     let from = i as usize;
     let near = ahead::least(cap, x.r as usize + 1 - from);
@@ -97,7 +97,7 @@ pub fn roots(left: &[u16], right: &[u16], colour: &mut [u8], x: Record, i: u16, 
 fn whitening(colour: &mut [u8], end: usize, from: AppendAt) -> AppendAt
     requires i_le_end { from.i ≤ end }
     requires end_in_bounds { end ≤ length colour.old }
-    ensures { (result.i ≤ end) × Whitens (was colour) end from (is colour) result }
+    ensures { (result.i ≤ end) × Whitens colour.old end from colour.new result }
 {
     let mut s = from;
     while s.i < end {
@@ -122,8 +122,8 @@ fn append_one(
     requires can_append { CanAppend left.old right.old colour.old x (s.i + 1) s }
     requires r_bound { x.r + 1 < s.i }
     requires r_bound_2 { s.free + (x.r + 2) < x.m }
-    ensures { (result.i ≤ s.i + 1) × AppendLeads (was left) (was right) (was colour) x s
-        (is left) (is right) (is colour) result }
+    ensures { (result.i ≤ s.i + 1) × AppendLeads left.old right.old colour.old x s
+        left.new right.new colour.new result }
 {
     let i = s.i;
     let last = s.last;
@@ -163,8 +163,8 @@ fn append_each(
     requires can_append { CanAppend left.old right.old colour.old x end from }
     requires r_bound { x.r + 1 < from.i }
     requires r_bound_2 { from.free + end + (x.r + 2) ≤ from.i + x.m }
-    ensures { (result.i ≤ end) × AppendLeads (was left) (was right) (was colour) x from
-        (is left) (is right) (is colour) result }
+    ensures { (result.i ≤ end) × AppendLeads left.old right.old colour.old x from
+        left.new right.new colour.new result }
 {
     let mut s = from;
     while s.i < end {
@@ -201,8 +201,8 @@ fn append_some(
     s: AppendAt,
 ) -> AppendAt
     requires { CanAppend left.old right.old colour.old x end s }
-    ensures { (result.i ≤ end) × AppendLeads (was left) (was right) (was colour) x s
-        (is left) (is right) (is colour) result }
+    ensures { (result.i ≤ end) × AppendLeads left.old right.old colour.old x s
+        left.new right.new colour.new result }
 {
     let i = s.i;
     if i <= x.r as usize + 1 {
@@ -222,8 +222,8 @@ fn appending(
     from: AppendAt,
 ) -> AppendAt
     requires { CanAppend left.old right.old colour.old x end from }
-    ensures { (result.i ≤ end) × AppendLeads (was left) (was right) (was colour) x from
-        (is left) (is right) (is colour) result }
+    ensures { (result.i ≤ end) × AppendLeads left.old right.old colour.old x from
+        left.new right.new colour.new result }
 {
     let mut s = from;
     while s.i < end {
@@ -249,8 +249,9 @@ pub fn appends(
     requires passes { Passes (state left.old right.old colour.old x) }
     requires room { Room x cap }
     requires phase_value { x.phase ≡ Append i }
-    ensures { (result.d ≤ cap) × Leads (given left right colour x) result.d result.changed
-        (state (is left) (is right) (is colour) result.rec) }
+    ensures { (result.d ≤ cap) × Leads (given left.old right.old colour.old x) result.d
+        result.changed
+        (state left.new right.new colour.new result.rec) }
 {
     let from = i as usize;
     let free = x.free as usize;

@@ -5,7 +5,6 @@ ghost use Rattle.std.specs.Prelude.{◌≡◌};
 ghost use Rattle.rules.specs.Table.{outcome};
 ghost use Rattle.rules.specs.Steps.{step, collecting};
 ghost use Rattle.rules.specs.Changes.{changes};
-ghost use Rattle.base.specs.Lent.{was, is};
 ghost use Rattle.rules.specs.Lent.{given};
 
 use rules::{Record, Told};
@@ -17,10 +16,10 @@ pub fn collect_in_place(
     colour: &mut [u8],
     rec: &mut Record,
 ) -> Told
-    ensures { (outcome (record { answer = result.answer; changed = result.changed; rec = is rec })
-        (is left) (is right) (is colour)
-        ≡ step collecting (given left right colour (was rec))) × (result.changed
-        ≡ changes collecting (given left right colour (was rec))) }
+    ensures { (outcome (record { answer = result.answer; changed = result.changed; rec = rec.new })
+        left.new right.new colour.new
+        ≡ step collecting (given left.old right.old colour.old rec.old)) × (result.changed
+        ≡ changes collecting (given left.old right.old colour.old rec.old)) }
 {
     let c = collector::collect(left, right, colour, *rec);
     *rec = c.rec;

@@ -8,7 +8,7 @@ use Rattle.base.proofs.Tests.{lt_yes, lt_no, pick_yes, pick_no, code_yes, code_n
 use Rattle.rules.specs.Table.{State, most_nodes, bad_edge}
 use Rattle.rules.specs.Check.{check}
 use Rattle.rules.specs.Meet.{met, meet, any_edge, first_side}
-use Rattle.rules.specs.InUse.{is_hurt, first_hurt, hurt_at, count_met, in_use_lem}
+use Rattle.rules.specs.InUse.{is_hurt, first_hurt, hurt_at, count_met, in_use}
 use Rattle.rules.specs.declared.Answer.{Answer}
 use Rattle.rules.specs.declared.Answer.TheVariants.{Counted, Refused}
 use Rattle.reach.proofs.Kept.{top}
@@ -54,12 +54,12 @@ module _ {m : ℕ} (r : ℕ) {es : List (List ℕ)} {marks : List ℕ} {tail h :
 
 -- code is what the check answered
 module _ (s : State) (code : ℕ) (e : code ≡ check s) where
-  pub in_use_refused : (code ≡ 0 → ⊥) → Refused code 0 0 ≡ in_use_lem s
-  unfolding in_use_lem
+  pub in_use_refused : (code ≡ 0 → ⊥) → Refused code 0 0 ≡ in_use s
+  unfolding in_use
   in_use_refused h = pick_no _ _ _ _ (code_no _ _ _ e h) (ap (λ (c : ℕ). Refused c 0 0) e)
 
   pub in_use_counted : (a : Answer) → code ≡ 0
       → a ≡ count_met s.rec.m s.rec.r s.edges (meet s.rec.m s.rec.r s.edges)
-      → a ≡ in_use_lem s
-  unfolding in_use_lem
+      → a ≡ in_use s
+  unfolding in_use
   in_use_counted a h q = pick_yes _ _ _ _ (code_yes _ _ _ e h) q

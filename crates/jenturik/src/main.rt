@@ -6,7 +6,6 @@
 #![tactic(auto)]
 
 ghost use Rattle.std.specs.Prelude.{◌≤◌, length};
-ghost use Rattle.base.specs.Lent.{was, is};
 
 use session::Session;
 
@@ -62,7 +61,7 @@ fn read(input: &mut [u8]) -> isize {
 
 // Writes a part of the bytes: how many were taken, 0 where they cannot be written.
 fn write_some(bytes: &[u8]) -> usize
-    ensures { result ≤ length (was bytes) }
+    ensures { result ≤ length bytes.now }
 {
     let mut tries = u64::MAX;
     while 0 < tries {

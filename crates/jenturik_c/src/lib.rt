@@ -6,7 +6,7 @@ ghost use Rattle.std.specs.Prelude.{◌≡◌, [], ◌∷◌, ◌+◌, ◌*◌, 
 ghost use Rattle.base.specs.Choice.{pick};
 ghost use Rattle.rules.specs.Fresh.{fresh};
 ghost use Rattle.rules.specs.Load.{load};
-ghost use Rattle.rules.specs.InUse.{in_use_lem};
+ghost use Rattle.rules.specs.InUse.{in_use};
 ghost use Rattle.rules.specs.FreeCount.{free_count};
 ghost use Rattle.rules.specs.Steps.{step, taking, linking, shading, collecting, looking};
 ghost use Rattle.rules.specs.Schedules.{ran, schedule, collects};
@@ -19,10 +19,9 @@ ghost use Rattle.jenturik_c.specs.Face.{place_of};
 ghost use Rattle.jenturik_c.specs.Flat.{STEP_WORDS, zeros, kind_at, of_kind, step_at, steps_of};
 ghost use Rattle.jenturik_c.specs.Flat.{schedule_of, changes_of};
 ghost use Rattle.jenturik_c.specs.Many.{code_in, detail_in, last_of};
-ghost use Rattle.jenturik_c.specs.Lent.{kept, tells, facing, runs, facing_run};
+ghost use Rattle.jenturik_c.specs.Lent.{tells, facing, runs, facing_run};
 ghost use Rattle.jenturik_c.specs.Lent.{facing_last, facing_count, facing_nodes, Stays, Passing};
 ghost use Rattle.jenturik_c.specs.Version.{VERSION};
-ghost use Rattle.base.specs.Lent.{was, is};
 ghost use Rattle.rules.specs.Lent.{given};
 
 use rules::{Answer, Phase, Place, Ran, Record, Step};
@@ -186,9 +185,9 @@ pub extern "C" fn jenturik_fresh(
     nodes: u32,
     slots: u32,
 ) -> Told
-    ensures words_value { tells result left right colour words
-        ≡ shown (fresh nodes slots (was left ∷ was right ∷ []) (was colour)) }
-    ensures true_value { true ≡ is_record (is words) }
+    ensures words_value { tells result left.new right.new colour.new words.new
+        ≡ shown (fresh nodes slots (left.old ∷ right.old ∷ []) colour.old) }
+    ensures true_value { true ≡ is_record words.new }
     ensures changed_value { result.changed ≡ 0 }
 {
     let made = fresh::fresh(left, right, colour, nodes as usize, slots as usize);
@@ -211,10 +210,10 @@ pub extern "C" fn jenturik_load(
     nodes: u32,
     slots: u32,
 ) -> Told
-    ensures words_value { tells result left right colour words
-        ≡ shown (load nodes slots (was lefts ∷ was rights ∷ []) (was left ∷ was right ∷ [])
-        (was colour)) }
-    ensures true_value { true ≡ is_record (is words) }
+    ensures words_value { tells result left.new right.new colour.new words.new
+        ≡ shown (load nodes slots (lefts.now ∷ rights.now ∷ []) (left.old ∷ right.old ∷ [])
+        colour.old) }
+    ensures true_value { true ≡ is_record words.new }
     ensures changed_value { result.changed ≡ 0 }
 {
     let made = load::load(
@@ -244,10 +243,12 @@ pub extern "C" fn jenturik_look(
     count: u32,
     word: u32,
 ) -> Told
-    ensures words_value { tells result (kept left) (kept right) (kept colour) (kept words)
-        ≡ facing (step (looking (place_of slot count word))) left right colour words }
+    ensures words_value { tells result left.now right.now colour.now words.now
+        ≡ facing (step (looking (place_of slot count word))) left.now right.now colour.now
+        words.now }
     ensures changed_value { result.changed
-        ≡ facing_count (changes (looking (place_of slot count word))) left right colour words }
+        ≡ facing_count (changes (looking (place_of slot count word))) left.now right.now colour.now
+        words.now }
 {
     let w = *words;
     let code = record_words::judge(left.len(), right.len(), colour.len(), w);
@@ -269,8 +270,8 @@ pub extern "C" fn jenturik_in_use(
     colour: &[u8],
     words: &[u32; record_words::WORDS],
 ) -> Told
-    ensures words_value { tells result (kept left) (kept right) (kept colour) (kept words)
-        ≡ facing (asking in_use_lem) left right colour words }
+    ensures words_value { tells result left.now right.now colour.now words.now
+        ≡ facing (asking in_use) left.now right.now colour.now words.now }
     ensures changed_value { result.changed ≡ 0 }
 {
     let w = *words;
@@ -289,8 +290,8 @@ pub extern "C" fn jenturik_free_count(
     colour: &[u8],
     words: &[u32; record_words::WORDS],
 ) -> Told
-    ensures words_value { tells result (kept left) (kept right) (kept colour) (kept words)
-        ≡ facing (asking free_count) left right colour words }
+    ensures words_value { tells result left.now right.now colour.now words.now
+        ≡ facing (asking free_count) left.now right.now colour.now words.now }
     ensures changed_value { result.changed ≡ 0 }
 {
     let w = *words;
@@ -317,13 +318,13 @@ pub extern "C" fn jenturik_link(
     tocount: u32,
     toword: u32,
 ) -> Told
-    ensures words_value { tells result left right (kept colour) words
+    ensures words_value { tells result left.new right.new colour.now words.new
         ≡ facing (step (linking (place_of slot count word) side (place_of toslot tocount toword)))
-        left right colour words }
-    ensures stays { Stays words }
+        left.old right.old colour.now words.old }
+    ensures stays { Stays words.old words.new }
     ensures changed_value { result.changed
         ≡ facing_count (changes (linking (place_of slot count word) side
-        (place_of toslot tocount toword))) left right colour words }
+        (place_of toslot tocount toword))) left.old right.old colour.now words.old }
 {
     let w = *words;
     let code = record_words::judge(left.len(), right.len(), colour.len(), w);
@@ -352,10 +353,11 @@ pub extern "C" fn jenturik_shade(
     colour: &mut [u8],
     words: &mut [u32; record_words::WORDS],
 ) -> Told
-    ensures words_value { tells result (kept left) (kept right) colour words
-        ≡ facing (step shading) left right colour words }
-    ensures stays { Stays words }
-    ensures changed_value { result.changed ≡ facing_count (changes shading) left right colour words }
+    ensures words_value { tells result left.now right.now colour.new words.new
+        ≡ facing (step shading) left.now right.now colour.old words.old }
+    ensures stays { Stays words.old words.new }
+    ensures changed_value { result.changed
+        ≡ facing_count (changes shading) left.now right.now colour.old words.old }
 {
     let w = *words;
     let code = record_words::judge(left.len(), right.len(), colour.len(), w);
@@ -382,11 +384,13 @@ pub extern "C" fn jenturik_take(
     word: u32,
     side: u32,
 ) -> Told
-    ensures words_value { tells result left right colour words
-        ≡ facing (step (taking (place_of slot count word) side)) left right colour words }
-    ensures stays { Stays words }
+    ensures words_value { tells result left.new right.new colour.new words.new
+        ≡ facing (step (taking (place_of slot count word) side)) left.old right.old colour.old
+        words.old }
+    ensures stays { Stays words.old words.new }
     ensures changed_value { result.changed
-        ≡ facing_count (changes (taking (place_of slot count word) side)) left right colour words }
+        ≡ facing_count (changes (taking (place_of slot count word) side)) left.old right.old
+        colour.old words.old }
 {
     let w = *words;
     let code = record_words::judge(left.len(), right.len(), colour.len(), w);
@@ -414,10 +418,11 @@ fn in_phase(
 ) -> Told
     requires passing { Passing left.old right.old colour.old words.old x }
     requires phase_value { phase ≡ x.phase }
-    ensures words_value { tells result left right colour words
-        ≡ facing (step collecting) left right colour words }
-    ensures true_value { true ≡ is_record (is words) }
-    ensures changed_value { result.changed ≡ facing_count (changes collecting) left right colour words }
+    ensures words_value { tells result left.new right.new colour.new words.new
+        ≡ facing (step collecting) left.old right.old colour.old words.old }
+    ensures true_value { true ≡ is_record words.new }
+    ensures changed_value { result.changed
+        ≡ facing_count (changes collecting) left.old right.old colour.old words.old }
     ensures narrow { Narrow result }
 {
     let made = collector::phase_step(left, right, colour, x, phase);
@@ -441,10 +446,11 @@ fn any_phase(
     x: Record,
 ) -> Told
     requires { Passing left.old right.old colour.old words.old x }
-    ensures words_value { tells result left right colour words
-        ≡ facing (step collecting) left right colour words }
-    ensures true_value { true ≡ is_record (is words) }
-    ensures changed_value { result.changed ≡ facing_count (changes collecting) left right colour words }
+    ensures words_value { tells result left.new right.new colour.new words.new
+        ≡ facing (step collecting) left.old right.old colour.old words.old }
+    ensures true_value { true ≡ is_record words.new }
+    ensures changed_value { result.changed
+        ≡ facing_count (changes collecting) left.old right.old colour.old words.old }
     ensures narrow { Narrow result }
 {
     let phase = x.phase;
@@ -468,10 +474,11 @@ pub extern "C" fn jenturik_collect(
     colour: &mut [u8],
     words: &mut [u32; record_words::WORDS],
 ) -> Told
-    ensures words_value { tells result left right colour words
-        ≡ facing (step collecting) left right colour words }
-    ensures stays { Stays words }
-    ensures changed_value { result.changed ≡ facing_count (changes collecting) left right colour words }
+    ensures words_value { tells result left.new right.new colour.new words.new
+        ≡ facing (step collecting) left.old right.old colour.old words.old }
+    ensures stays { Stays words.old words.new }
+    ensures changed_value { result.changed
+        ≡ facing_count (changes collecting) left.old right.old colour.old words.old }
 {
     let w = *words;
     let code = record_words::judge(left.len(), right.len(), colour.len(), w);
@@ -534,12 +541,14 @@ pub extern "C" fn jenturik_collect_many(
     words: &mut [u32; record_words::WORDS],
     n: usize,
 ) -> Last
-    ensures words_value { runs result.done (code_in result.code) (detail_in result.code) left right colour words
-        ≡ facing_run (schedule (collects n)) left right colour words }
-    ensures result_value { last_of result ≡ facing_last n left right colour words }
-    ensures stays { Stays words }
+    ensures words_value { runs result.done (code_in result.code) (detail_in result.code) left.new
+        right.new colour.new words.new
+        ≡ facing_run (schedule (collects n)) left.old right.old colour.old words.old }
+    ensures result_value { last_of result ≡ facing_last n left.old right.old colour.old words.old }
+    ensures stays { Stays words.old words.new }
     ensures changed_value { result.changed
-        ≡ facing_count (λ s. fitted (changes_all (collects n) s)) left right colour words }
+        ≡ facing_count (λ s. fitted (changes_all (collects n) s)) left.old right.old colour.old
+        words.old }
 {
     let w = *words;
     let code = record_words::judge(left.len(), right.len(), colour.len(), w);
@@ -580,15 +589,18 @@ pub extern "C" fn jenturik_collect_freed(
     n: usize,
     list: &mut [u16],
 ) -> Freed
-    ensures words_value { runs result.done result.code result.detail left right colour words
-        ≡ facing_run (run_in n (was list)) left right colour words }
-    ensures stays { Stays words }
+    ensures words_value { runs result.done result.code result.detail left.new right.new colour.new
+        words.new
+        ≡ facing_run (run_in n list.old) left.old right.old colour.old words.old }
+    ensures stays { Stays words.old words.new }
     ensures changed_value { result.changed
-        ≡ facing_count (λ s. fitted (changes_in n (was list) s)) left right colour words }
-    ensures list_value { is list ≡ noted (facing_nodes (appended_in n (was list)) left right colour words)
-        (was list) }
+        ≡ facing_count (λ s. fitted (changes_in n list.old s)) left.old right.old colour.old
+        words.old }
+    ensures list_value { list.new
+        ≡ noted (facing_nodes (appended_in n list.old) left.old right.old colour.old words.old)
+        list.old }
     ensures freed_value { result.freed
-        ≡ length (facing_nodes (appended_in n (was list)) left right colour words) }
+        ≡ length (facing_nodes (appended_in n list.old) left.old right.old colour.old words.old) }
 {
     let w = *words;
     if !record_words::is_record(w) {
@@ -616,7 +628,7 @@ pub extern "C" fn jenturik_collect_freed(
 // Whether four words from the n-th on are 0.
 fn zeros(steps: &[u32], n: usize) -> bool
     requires { n + 4 ≤ length steps.now }
-    ensures { result ≡ zeros (was steps) n }
+    ensures { result ≡ zeros steps.now n }
 {
     if steps[n] != 0 {
         return false;
@@ -633,7 +645,7 @@ fn zeros(steps: &[u32], n: usize) -> bool
 // The kind of the i-th step: none that can be read where a word without a use is not 0.
 fn kind_at(steps: &[u32], i: usize) -> u32
     requires { STEP_WORDS * i + STEP_WORDS ≤ length steps.now }
-    ensures { result ≡ kind_at (was steps) i }
+    ensures { result ≡ kind_at steps.now i }
 {
     let at = STEP_WORDS * i;
     if !zeros(steps, at + UNUSED) {
@@ -645,7 +657,7 @@ fn kind_at(steps: &[u32], i: usize) -> u32
 // The i-th step, of a kind.
 fn of_kind(steps: &[u32], i: usize, kind: u32) -> Step
     requires { STEP_WORDS * i + STEP_WORDS ≤ length steps.now }
-    ensures { result ≡ of_kind (was steps) i kind }
+    ensures { result ≡ of_kind steps.now i kind }
 {
     let at = STEP_WORDS * i;
     Step {
@@ -663,16 +675,17 @@ fn of_kind(steps: &[u32], i: usize, kind: u32) -> Step
 // The i-th step of a schedule of words.
 fn step_at(steps: &[u32], i: usize) -> Step
     requires { STEP_WORDS * i + STEP_WORDS ≤ length steps.now }
-    ensures { result ≡ step_at (was steps) i }
+    ensures { result ≡ step_at steps.now i }
 {
     of_kind(steps, i, kind_at(steps, i))
 }
 
 // The whole steps of a schedule of words, in order until one is refused.
 fn follow(steps: &[u32], left: &mut [u16], right: &mut [u16], colour: &mut [u8], x: Record) -> Ran
-    ensures colour_value { ran result (is left) (is right) (is colour)
-        ≡ schedule (steps_of (was steps)) (given left right colour x) }
-    ensures changed_value { result.changed ≡ changes_all (steps_of (was steps)) (given left right colour x) }
+    ensures colour_value { ran result left.new right.new colour.new
+        ≡ schedule (steps_of steps.now) (given left.old right.old colour.old x) }
+    ensures changed_value { result.changed
+        ≡ changes_all (steps_of steps.now) (given left.old right.old colour.old x) }
 {
     let mut g = schedule::begin(
         left.len(),
@@ -702,9 +715,10 @@ fn schedule_of(
     colour: &mut [u8],
     x: Record,
 ) -> Ran
-    ensures colour_value { ran result (is left) (is right) (is colour)
-        ≡ schedule_of (was steps) (given left right colour x) }
-    ensures changed_value { result.changed ≡ changes_of (was steps) (given left right colour x) }
+    ensures colour_value { ran result left.new right.new colour.new
+        ≡ schedule_of steps.now (given left.old right.old colour.old x) }
+    ensures changed_value { result.changed
+        ≡ changes_of steps.now (given left.old right.old colour.old x) }
 {
     if steps.len() % STEP_WORDS != 0 {
         return Ran {
@@ -727,11 +741,13 @@ pub extern "C" fn jenturik_schedule(
     words: &mut [u32; record_words::WORDS],
     steps: &[u32],
 ) -> Done
-    ensures words_value { runs result.done result.code result.detail left right colour words
-        ≡ facing_run (schedule_of (was steps)) left right colour words }
-    ensures stays { Stays words }
+    ensures words_value { runs result.done result.code result.detail left.new right.new colour.new
+        words.new
+        ≡ facing_run (schedule_of steps.now) left.old right.old colour.old words.old }
+    ensures stays { Stays words.old words.new }
     ensures changed_value { result.changed
-        ≡ facing_count (λ s. fitted (changes_of (was steps) s)) left right colour words }
+        ≡ facing_count (λ s. fitted (changes_of steps.now s)) left.old right.old colour.old
+        words.old }
 {
     let w = *words;
     if !record_words::is_record(w) {

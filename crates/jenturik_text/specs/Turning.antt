@@ -2,8 +2,6 @@
 -- docs/RULES.md.
 use Rattle.base.specs.Choice.{pick}
 use Rattle.std.specs.Prelude.{ℕ, true, List, ◌≡◌, eqb, length}
-use Rattle.base.specs.Lent.{was, is}
-use Rattle.rules.specs.Lent.{Slice}
 use Rattle.session.specs.Feeding.{keeps, Stand, standing, stand, turn}
 use Rattle.session.specs.declared.Session.{Session}
 use Rattle.session.specs.declared.Stage.{Stage}
@@ -78,14 +76,14 @@ turns w l k c ls rs line out input =
     pick (eqb code 0) (done (turn (length input) input s)) (spurned code w s)
 
 -- the slices as they are, and as they were
-abbrev pub leaves : Turned → Slice → Slice → Slice → Slice → Slice → Slice → Slice → Slice → Left
+abbrev pub leaves : Turned → List ℕ → List ℕ → List ℕ → List ℕ → List ℕ → List ℕ → List ℕ → List ℕ → Left
 leaves t words l k c ls rs line out =
-    left t (is words) (is l) (is k) (is c) (is ls) (is rs) (is line) (is out)
+    left t words l k c ls rs line out
 
-abbrev pub turning : Slice → Slice → Slice → Slice → Slice → Slice → Slice → Slice → Slice → Left
+abbrev pub turning : List ℕ → List ℕ → List ℕ → List ℕ → List ℕ → List ℕ → List ℕ → List ℕ → List ℕ → Left
 turning words l k c ls rs line out input =
-    turns (was words) (was l) (was k) (was c) (was ls) (was rs) (was line) (was out) (was input)
+    turns words l k c ls rs line out input
 
 -- [Text 6] words that were a session's are a session's
-abbrev pub Stays : Slice → Type 0
-Stays words = true ≡ is_session (was words) → true ≡ is_session (is words)
+abbrev pub Stays : List ℕ → List ℕ → Type 0
+Stays was is = true ≡ is_session was → true ≡ is_session is

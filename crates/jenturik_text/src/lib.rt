@@ -4,7 +4,6 @@
 
 ghost use Rattle.std.specs.Prelude.{◌≡◌, true};
 ghost use Rattle.session.specs.Feeding.{held};
-ghost use Rattle.base.specs.Lent.{was, is};
 ghost use Rattle.jenturik_text.specs.Words.{tag_of, entry_of, laid_out, words_of};
 ghost use Rattle.jenturik_text.specs.Words.{record_part};
 ghost use Rattle.jenturik_text.specs.Words.{stage_of, most_table, most_entry, all_zero};
@@ -278,9 +277,11 @@ pub extern "C" fn jenturik_turn(
     words: &mut [u32; WORDS],
     input: &[u8],
 ) -> Turned
-    ensures out_value { leaves result words left right colour lefts rights line out
-        ≡ turning words left right colour lefts rights line out input }
-    ensures stays { Stays words }
+    ensures out_value { leaves result words.new left.new right.new colour.new lefts.new rights.new
+        line.new out.new
+        ≡ turning words.old left.old right.old colour.old lefts.old rights.old line.old out.old
+        input.now }
+    ensures stays { Stays words.old words.new }
 {
     let w = *words;
     let code = judged(line.len(), w);

@@ -9,7 +9,6 @@ ghost use Rattle.rules.specs.Schedules.{ran, schedule, collects};
 ghost use Rattle.text.specs.Grammar.{read};
 ghost use Rattle.lines.specs.Lines.{prints, answered, start_of, collected, later, placed};
 ghost use Rattle.lines.specs.Lines.{loaded, failed, opened};
-ghost use Rattle.base.specs.Lent.{was, is};
 ghost use Rattle.rules.specs.Lent.{given};
 
 use rules::{Made, Ran, Record};
@@ -47,8 +46,8 @@ fn start_of(done: usize, i: u16) -> u16
 
 // So many collector steps, until one is refused.
 fn collect_many(left: &mut [u16], right: &mut [u16], colour: &mut [u8], x: Record, n: usize) -> Ran
-    ensures { ran result (is left) (is right) (is colour)
-        ≡ schedule (collects n) (given left right colour x) }
+    ensures { ran result left.new right.new colour.new
+        ≡ schedule (collects n) (given left.old right.old colour.old x) }
 {
     let made = batch::collect_many(left, right, colour, x, n);
     let answer = made.answer;
@@ -65,8 +64,8 @@ fn collect_many(left: &mut [u16], right: &mut [u16], colour: &mut [u8], x: Recor
 // All collector steps of a line but the last, then the last.
 fn collect_some(left: &mut [u16], right: &mut [u16], colour: &mut [u8], x: Record, n: u32) -> Told
     requires { 0 < n }
-    ensures { prints result.code result.node (state (is left) (is right) (is colour) result.rec)
-        ≡ collected n (given left right colour x) }
+    ensures { prints result.code result.node (state left.new right.new colour.new result.rec)
+        ≡ collected n (given left.old right.old colour.old x) }
 {
     let most = collect_many(left, right, colour, x, (n - 1) as usize);
     let rec = most.rec;
@@ -89,8 +88,8 @@ fn collect_some(left: &mut [u16], right: &mut [u16], colour: &mut [u8], x: Recor
 }
 
 fn collect(left: &mut [u16], right: &mut [u16], colour: &mut [u8], x: Record, n: u32) -> Told
-    ensures { prints result.code result.node (state (is left) (is right) (is colour) result.rec)
-        ≡ collected n (given left right colour x) }
+    ensures { prints result.code result.node (state left.new right.new colour.new result.rec)
+        ≡ collected n (given left.old right.old colour.old x) }
 {
     if 0 < n {
         return collect_some(left, right, colour, x, n);
@@ -106,8 +105,8 @@ fn collect(left: &mut [u16], right: &mut [u16], colour: &mut [u8], x: Record, n:
 
 // What a line after the first prints, and what it leaves.
 pub fn later(left: &mut [u16], right: &mut [u16], colour: &mut [u8], x: Record, line: &[u8]) -> Told
-    ensures { prints result.code result.node (state (is left) (is right) (is colour) result.rec)
-        ≡ later (read (was line)) (given left right colour x) }
+    ensures { prints result.code result.node (state left.new right.new colour.new result.rec)
+        ≡ later (read line.now) (given left.old right.old colour.old x) }
 {
     let said = text::read(line);
     match said {
@@ -136,8 +135,8 @@ pub fn load(
     colour: &mut [u8],
     x: Record,
 ) -> Told
-    ensures { prints result.code result.node (state (is left) (is right) (is colour) result.rec)
-        ≡ loaded (was lefts) (was rights) (given left right colour x) }
+    ensures { prints result.code result.node (state left.new right.new colour.new result.rec)
+        ≡ loaded lefts.now rights.now (given left.old right.old colour.old x) }
 {
     let m = x.m;
     let r = x.r;
@@ -149,9 +148,9 @@ fn start(left: &mut [u16], right: &mut [u16], colour: &mut [u8], m: usize, r: us
     requires m_in_bounds { m ≤ length left.old }
     requires m_in_bounds_2 { m ≤ length right.old }
     requires m_in_bounds_3 { m ≤ length colour.old }
-    ensures { prints result.code result.node (state (is left) (is right) (is colour) result.rec)
-        ≡ placed (fresh m r (take m (was left) ∷ take m (was right) ∷ []) (take m (was colour)))
-        (drop m (was left)) (drop m (was right)) (drop m (was colour)) }
+    ensures { prints result.code result.node (state left.new right.new colour.new result.rec)
+        ≡ placed (fresh m r (take m left.old ∷ take m right.old ∷ []) (take m colour.old))
+        (drop m left.old) (drop m right.old) (drop m colour.old) }
 {
     answered(fresh::fresh(&mut left[0..m], &mut right[0..m], &mut colour[0..m], m, r))
 }
@@ -170,8 +169,8 @@ fn refused(code: u8) -> Told
 
 // A fresh table of m nodes and r slots, where the tables have room for it.
 fn begin(left: &mut [u16], right: &mut [u16], colour: &mut [u8], m: u32, r: u32) -> Told
-    ensures { prints result.code result.node (state (is left) (is right) (is colour) result.rec)
-        ≡ opened (Said.First m r) (was left) (was right) (was colour) }
+    ensures { prints result.code result.node (state left.new right.new colour.new result.rec)
+        ≡ opened (Said.First m r) left.old right.old colour.old }
 {
     let nodes = m as usize;
     if left.len() < nodes {
@@ -189,8 +188,8 @@ fn begin(left: &mut [u16], right: &mut [u16], colour: &mut [u8], m: u32, r: u32)
 // What the first line prints, and the table that it begins in the first entries of the program's
 // own.
 pub fn first(left: &mut [u16], right: &mut [u16], colour: &mut [u8], line: &[u8]) -> Told
-    ensures { prints result.code result.node (state (is left) (is right) (is colour) result.rec)
-        ≡ opened (read (was line)) (was left) (was right) (was colour) }
+    ensures { prints result.code result.node (state left.new right.new colour.new result.rec)
+        ≡ opened (read line.now) left.old right.old colour.old }
 {
     let said = text::read(line);
     match said {

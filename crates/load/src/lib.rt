@@ -8,7 +8,6 @@ ghost use Rattle.rules.specs.Load.{load_size_of, bad_given, first_bad, chained, 
 ghost use Rattle.rules.specs.Load.{chain_length, is_shared, first_shared, judge_free, load_by, load};
 ghost use Rattle.rules.specs.Steps.{code_of};
 ghost use Rattle.load.specs.GoodEdges.{Below, load_good};
-ghost use Rattle.base.specs.Lent.{was, is};
 ghost use Rattle.rules.specs.Lent.{leaves};
 
 use rules::{Answer, Made, Record};
@@ -61,7 +60,7 @@ fn bad_given(m: u32, n: usize, e: u32) -> bool
 fn bad_node(lefts: &[u32], rights: &[u32], m: u32, n: usize) -> bool
     requires n_in_bounds { n < length lefts.now }
     requires n_in_bounds_2 { n < length rights.now }
-    ensures { result ≡ any_edge (bad_given m n) (was lefts ∷ was rights ∷ []) n }
+    ensures { result ≡ any_edge (bad_given m n) (lefts.now ∷ rights.now ∷ []) n }
 {
     if bad_given(m, n, lefts[n]) {
         return true;
@@ -73,7 +72,7 @@ fn bad_node(lefts: &[u32], rights: &[u32], m: u32, n: usize) -> bool
 fn first_bad(lefts: &[u32], rights: &[u32], m: u32) -> usize
     requires lefts_len { length lefts.now ≡ m }
     requires rights_len { length rights.now ≡ m }
-    ensures { result ≡ first_bad m (was lefts ∷ was rights ∷ []) }
+    ensures { result ≡ first_bad m (lefts.now ∷ rights.now ∷ []) }
 {
     let mut n = 0;
     while n < lefts.len() {
@@ -89,8 +88,8 @@ fn first_bad(lefts: &[u32], rights: &[u32], m: u32) -> usize
 fn bad_side(lefts: &[u32], m: u32, n: usize) -> u8
     requires { n < length lefts.now }
     ensures { (rights : List ℕ)
-        → true ≡ any_edge (bad_given m n) (was lefts ∷ rights ∷ []) n
-        → result ≡ first_side (bad_given m n) (was lefts ∷ rights ∷ []) n }
+        → true ≡ any_edge (bad_given m n) (lefts.now ∷ rights ∷ []) n
+        → result ≡ first_side (bad_given m n) (lefts.now ∷ rights ∷ []) n }
 {
     if bad_given(m, n, lefts[n]) {
         return rules::LEFT;
@@ -102,7 +101,7 @@ fn bad_side(lefts: &[u32], m: u32, n: usize) -> u8
 fn narrow(given: &[u32], edges: &mut [u16])
     requires given_in_bounds { length given.now ≤ length edges.old }
     requires below { Below most_nodes given.now }
-    ensures { take (length (was given)) (is edges) ≡ was given }
+    ensures { take (length given.now) edges.new ≡ given.now }
 {
     let mut n = 0;
     while n < given.len() {
@@ -131,10 +130,10 @@ fn chain(left: &[u16], right: &[u16], free: &mut [u8], m: u16, r: u16) -> Found
     requires right_len { length right.now ≡ m }
     requires m_in_bounds { m ≤ length free.old }
     requires below { Below m left.now }
-    ensures answer_value { chained (is free) result.answer
-        ≡ chain r (was left ∷ was right ∷ []) m (was free) 1 }
+    ensures answer_value { chained free.new result.answer
+        ≡ chain r (left.now ∷ right.now ∷ []) m free.old 1 }
     ensures free_value { code_of result.answer ≡ 0
-        → result.free ≡ chain_length (was left ∷ was right ∷ []) m 1 }
+        → result.free ≡ chain_length (left.now ∷ right.now ∷ []) m 1 }
 {
     let mut n = 1;
     let mut k = 0;
@@ -168,7 +167,7 @@ fn chain(left: &[u16], right: &[u16], free: &mut [u8], m: u16, r: u16) -> Found
 fn shared(free: &[u8], marks: &[u8], n: u16) -> bool
     requires n_in_bounds { n < length free.now }
     requires n_in_bounds_2 { n < length marks.now }
-    ensures { result ≡ is_shared (was free) (was marks) n }
+    ensures { result ≡ is_shared free.now marks.now n }
 {
     let at = n as usize;
     if free[at] == 0 {
@@ -181,7 +180,7 @@ fn shared(free: &[u8], marks: &[u8], n: u16) -> bool
 fn lowest_shared(free: &[u8], marks: &[u8], m: u16) -> u16
     requires m_in_bounds { m ≤ length free.now }
     requires m_in_bounds_2 { m ≤ length marks.now }
-    ensures { result ≡ first_shared m (was free) (was marks) }
+    ensures { result ≡ first_shared m free.now marks.now }
 {
     let mut n = 0;
     while n < m {
@@ -203,7 +202,7 @@ fn first_shared(left: &[u16], right: &[u16], free: &[u8], marks: &mut [u8], m: u
     requires m_in_bounds { m ≤ length free.now }
     requires m_in_bounds_2 { m ≤ length marks.old }
     requires by_index { (n : ℕ) → get_or marks.old n 0 ≡ 0 }
-    ensures { result ≡ first_shared m (was free) (meet m r (was left ∷ was right ∷ [])).num }
+    ensures { result ≡ first_shared m free.now (meet m r (left.now ∷ right.now ∷ [])).num }
 {
     meet::meet(left, right, marks, m, r);
     lowest_shared(free, marks, m)
@@ -227,7 +226,7 @@ fn judge_free(
     requires m_in_bounds { m ≤ length free.now }
     requires m_in_bounds_2 { m ≤ length marks.old }
     requires by_index { (n : ℕ) → get_or marks.old n 0 ≡ 0 }
-    ensures { result ≡ judge_free m r (was left ∷ was right ∷ []) (chained (was free) found) }
+    ensures { result ≡ judge_free m r (left.now ∷ right.now ∷ []) (chained free.now found) }
 {
     if found.code() != 0 {
         return found;
@@ -257,10 +256,10 @@ fn judge_with(
     requires m_in_bounds_2 { m ≤ length marks.old }
     requires by_index { (n : ℕ) → get_or marks.old n 0 ≡ 0 }
     requires below { Below m left.now }
-    ensures answer_value { result.answer ≡ judge_free m r (was left ∷ was right ∷ [])
-        (chain r (was left ∷ was right ∷ []) m (was free) 1) }
+    ensures answer_value { result.answer ≡ judge_free m r (left.now ∷ right.now ∷ [])
+        (chain r (left.now ∷ right.now ∷ []) m free.old 1) }
     ensures free_value { code_of result.answer ≡ 0
-        → result.free ≡ chain_length (was left ∷ was right ∷ []) m 1 }
+        → result.free ≡ chain_length (left.now ∷ right.now ∷ []) m 1 }
 {
     let found = chain(left, right, free, m, r);
     let end = found.answer;
@@ -277,10 +276,10 @@ fn judge(left: &[u16], right: &[u16], m: u16, r: u16) -> Found
     requires left_len { length left.now ≡ m }
     requires right_len { length right.now ≡ m }
     requires below { Below m left.now }
-    ensures answer_value { result.answer ≡ judge_free m r (was left ∷ was right ∷ [])
-        (chain r (was left ∷ was right ∷ []) m blank 1) }
+    ensures answer_value { result.answer ≡ judge_free m r (left.now ∷ right.now ∷ [])
+        (chain r (left.now ∷ right.now ∷ []) m blank 1) }
     ensures free_value { code_of result.answer ≡ 0
-        → result.free ≡ chain_length (was left ∷ was right ∷ []) m 1 }
+        → result.free ≡ chain_length (left.now ∷ right.now ∷ []) m 1 }
 {
     let nodes = m as usize;
     if nodes <= meet::FEW_NODES {
@@ -295,7 +294,7 @@ fn judge(left: &[u16], right: &[u16], m: u16, r: u16) -> Found
 
 fn copy(given: &[u16], edges: &mut [u16])
     requires { length edges.old ≡ length given.now }
-    ensures { is edges ≡ was given }
+    ensures { edges.new ≡ given.now }
 {
     let mut n = 0;
     while n < given.len() {
@@ -323,9 +322,9 @@ fn load_table(
     requires right_len { length right.old ≡ m }
     requires colour_len { length colour.old ≡ m }
     requires below { Below m lefts.now }
-    ensures colour_value { leaves result left right colour
-        ≡ load_good m r (was lefts ∷ was rights ∷ [])
-        (was left ∷ was right ∷ []) (was colour) }
+    ensures colour_value { leaves result left.new right.new colour.new
+        ≡ load_good m r (lefts.now ∷ rights.now ∷ [])
+        (left.old ∷ right.old ∷ []) colour.old }
     ensures changed_value { result.changed ≡ 0 }
 {
     let found = judge(lefts, rights, m, r);
@@ -371,9 +370,9 @@ fn load_with(
     requires colour_len { length colour.old ≡ m }
     requires below { Below m lefts.now }
     requires below_2 { Below m rights.now }
-    ensures colour_value { leaves result left right colour
-        ≡ load_good m r (was lefts ∷ was rights ∷ [])
-        (was left ∷ was right ∷ []) (was colour) }
+    ensures colour_value { leaves result left.new right.new colour.new
+        ≡ load_good m r (lefts.now ∷ rights.now ∷ [])
+        (left.old ∷ right.old ∷ []) colour.old }
     ensures changed_value { result.changed ≡ 0 }
 {
     narrow(lefts, l);
@@ -402,9 +401,9 @@ fn load_good(
     requires colour_len { length colour.old ≡ m }
     requires below { Below m lefts.now }
     requires below_2 { Below m rights.now }
-    ensures colour_value { leaves result left right colour
-        ≡ load_good m r (was lefts ∷ was rights ∷ [])
-        (was left ∷ was right ∷ []) (was colour) }
+    ensures colour_value { leaves result left.new right.new colour.new
+        ≡ load_good m r (lefts.now ∷ rights.now ∷ [])
+        (left.old ∷ right.old ∷ []) colour.old }
     ensures changed_value { result.changed ≡ 0 }
 {
     let nodes = m as usize;
@@ -442,8 +441,8 @@ pub fn load(
     m: usize,
     r: usize,
 ) -> Made
-    ensures colour_value { leaves result left right colour
-        ≡ load m r (was lefts ∷ was rights ∷ []) (was left ∷ was right ∷ []) (was colour) }
+    ensures colour_value { leaves result left.new right.new colour.new
+        ≡ load m r (lefts.now ∷ rights.now ∷ []) (left.old ∷ right.old ∷ []) colour.old }
     ensures changed_value { result.changed ≡ 0 }
 {
     if !size_ok(

@@ -3,7 +3,6 @@
 
 ghost use Rattle.std.specs.Prelude.{◌≡◌, [], ◌∷◌, ℕ, ◌+◌, ◌-◌, ◌<◌, ◌≤◌, length, get_or};
 ghost use Rattle.base.specs.Choice.{pick};
-ghost use Rattle.base.specs.Lent.{was, is};
 ghost use Rattle.rules.specs.Table.{most_nodes, most_slots, bad_edge};
 ghost use Rattle.rules.specs.Meet.{Met, met, blank, visit, visit_slots, visit_edges};
 ghost use Rattle.rules.specs.Meet.{visit_from, meet, any_edge};
@@ -59,8 +58,8 @@ fn visit(
     requires shows { Shows m marks.old order.old tail }
     ensures tail_bound { result.tail ≤ tail + 1 }
     ensures hurt_value { result.hurt ≡ pick (bad_edge m e) (lower n hurt) hurt }
-    ensures shown { (s : Met) → Shown m (was marks) (was order) tail s
-        → Shown m (is marks) (is order) result.tail (visit m e s) }
+    ensures shown { (s : Met) → Shown m marks.old order.old tail s
+        → Shown m marks.new order.new result.tail (visit m e s) }
 {
     if e == 0 {
         return Visited { tail, hurt };
@@ -87,7 +86,7 @@ fn visit_slots(marks: &mut [u8], order: &mut [u16], m: u16, r: u16)
     requires m_in_bounds { m ≤ length marks.old }
     requires r_in_bounds { r + 2 ≤ length order.old }
     requires by_index { (n : ℕ) → get_or marks.old n 0 ≡ 0 }
-    ensures { Shown m (is marks) (is order) (r + 2)
+    ensures { Shown m marks.new order.new (r + 2)
         (visit_slots m r (met blank blank 2)) }
 {
     let roots = r as usize + 2;
@@ -117,11 +116,11 @@ fn visit_edges(
     requires tail_in_bounds { tail + 1 < length order.old }
     requires shows { Shows m marks.old order.old tail }
     ensures tail_bound { result.tail ≤ tail + 2 }
-    ensures hurt_value { result.hurt ≡ pick (any_edge (bad_edge m) (was left ∷ was right ∷ []) n)
+    ensures hurt_value { result.hurt ≡ pick (any_edge (bad_edge m) (left.now ∷ right.now ∷ []) n)
         (lower n hurt) hurt }
-    ensures shown { (s : Met) → Shown m (was marks) (was order) tail s
-        → Shown m (is marks) (is order) result.tail
-        (visit_edges m (was left ∷ was right ∷ []) n s) }
+    ensures shown { (s : Met) → Shown m marks.old order.old tail s
+        → Shown m marks.new order.new result.tail
+        (visit_edges m (left.now ∷ right.now ∷ []) n s) }
 {
     let at = n as usize;
     let once = visit(marks, order, m, n, left[at], tail, hurt);
@@ -149,11 +148,11 @@ fn visit_rest(
     requires start_in_bounds { start ≤ length order.old }
     requires going { Going m (left.now ∷ right.now ∷ []) marks.old order.old start k least }
     ensures le_next { 2 ≤ result.next }
-    ensures tail_in_bounds { result.tail ≤ length (was order) }
-    ensures tail_le_next { m + 2 ≤ length (was order) → result.tail ≤ result.next }
-    ensures gone { (s : Met) → Shown m (was marks) (was order) start s
-        → Hurt m (was left ∷ was right ∷ []) s k least
-        → Gone m (was left ∷ was right ∷ []) k s (is marks) (is order)
+    ensures tail_in_bounds { result.tail ≤ length order.old }
+    ensures tail_le_next { m + 2 ≤ length order.old → result.tail ≤ result.next }
+    ensures gone { (s : Met) → Shown m marks.old order.old start s
+        → Hurt m (left.now ∷ right.now ∷ []) s k least
+        → Gone m (left.now ∷ right.now ∷ []) k s marks.new order.new
         result.tail result.next result.hurt }
 {
     let mut next = k;
@@ -176,7 +175,7 @@ fn visit_rest(
 fn widen(few: &[u16], order: &mut [u16], n: usize)
     requires n_in_bounds { n ≤ length few.now }
     requires n_in_bounds_2 { n ≤ length order.old }
-    ensures { (k : ℕ) → k < n → get_or (is order) k 0 ≡ get_or (was few) k 0 }
+    ensures { (k : ℕ) → k < n → get_or order.new k 0 ≡ get_or few.now k 0 }
 {
     let mut k = 0;
     while k < n {
@@ -204,10 +203,10 @@ fn visit_many(
     requires le_k { 2 ≤ k }
     requires start_in_bounds { start ≤ length few.now }
     requires going { Going m (left.now ∷ right.now ∷ []) marks.old few.now start k least }
-    ensures { (s : Met) → Shown m (was marks) (was few) start s
-        → Hurt m (was left ∷ was right ∷ []) s k least
-        → Told m (was left ∷ was right ∷ []) (is marks) result.tail result.hurt
-        (visit_from m (was left ∷ was right ∷ []) (m - k) k s) }
+    ensures { (s : Met) → Shown m marks.old few.now start s
+        → Hurt m (left.now ∷ right.now ∷ []) s k least
+        → Told m (left.now ∷ right.now ∷ []) marks.new result.tail result.hurt
+        (visit_from m (left.now ∷ right.now ∷ []) (m - k) k s) }
 {
     let mut order = [0u16; MANY];
     widen(few, &mut order, start);
@@ -228,8 +227,8 @@ pub fn meet(left: &[u16], right: &[u16], marks: &mut [u8], m: u16, r: u16) -> Vi
     requires right_len { length right.now ≡ m }
     requires m_in_bounds { m ≤ length marks.old }
     requires by_index { (n : ℕ) → get_or marks.old n 0 ≡ 0 }
-    ensures { Told m (was left ∷ was right ∷ []) (is marks) result.tail result.hurt
-        (meet m r (was left ∷ was right ∷ [])) }
+    ensures { Told m (left.now ∷ right.now ∷ []) marks.new result.tail result.hurt
+        (meet m r (left.now ∷ right.now ∷ [])) }
 {
     let mut few = [0u16; FEW];
     visit_slots(marks, &mut few, m, r);

@@ -7,7 +7,6 @@ ghost use Rattle.rules.specs.Table.{most_nodes, edge_of};
 ghost use Rattle.rules.specs.Places.{turns_ok, place_code, start, walk_from};
 ghost use Rattle.rules.specs.Editor.{side_code, owed_code};
 ghost use Rattle.places.specs.Sources.{edit_code, source_of};
-ghost use Rattle.base.specs.Lent.{was};
 
 use rules::{Owed, Place, Record, Walk};
 
@@ -86,7 +85,7 @@ pub fn walk_from(left: &[u16], right: &[u16], m: u16, start: u16, count: u32, wo
     requires start_lt_m { start < m }
     requires left_len { length left.now ≡ m }
     requires right_len { length right.now ≡ m }
-    ensures { result ≡ walk_from 2 (edge_of (was left ∷ was right ∷ [])) m count word start }
+    ensures { result ≡ walk_from 2 (edge_of (left.now ∷ right.now ∷ [])) m count word start }
 {
     let mut n = start;
     let mut rest = word;
@@ -114,7 +113,7 @@ pub fn walk(left: &[u16], right: &[u16], m: u16, p: Place) -> Walk
     requires left_len { length left.now ≡ m }
     requires right_len { length right.now ≡ m }
     ensures { result
-        ≡ walk_from 2 (edge_of (was left ∷ was right ∷ [])) m p.count p.word (start p) }
+        ≡ walk_from 2 (edge_of (left.now ∷ right.now ∷ [])) m p.count p.word (start p) }
 {
     walk_from(left, right, m, (p.slot + 2) as u16, p.count, p.word)
 }
@@ -126,7 +125,7 @@ pub fn depart(left: &[u16], right: &[u16], m: u16, p: Place) -> Source
     requires left_len { length left.now ≡ m }
     requires right_len { length right.now ≡ m }
     ensures { result ≡ source_of
-        (walk_from 2 (edge_of (was left ∷ was right ∷ [])) m p.count p.word (start p)) }
+        (walk_from 2 (edge_of (left.now ∷ right.now ∷ [])) m p.count p.word (start p)) }
 {
     let from = walk(left, right, m, p);
     match from {

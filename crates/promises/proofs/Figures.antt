@@ -21,7 +21,7 @@ use Rattle.rules.specs.Steps.{step, run, taking, linking, shading, collecting, l
 use Rattle.rules.specs.Steps.{node_of}
 use Rattle.rules.specs.Schedules.{collects}
 use Rattle.rules.specs.Meet.{blank, visit, visit_slots, visit_edges, visit_from, meet, lowest, any_edge}
-use Rattle.rules.specs.InUse.{is_hurt, first_hurt, count_met, in_use_lem}
+use Rattle.rules.specs.InUse.{is_hurt, first_hurt, count_met, in_use}
 use Rattle.rules.specs.FreeCount.{free_count}
 use Rattle.rules.specs.declared.Place.{Place}
 use Rattle.rules.specs.declared.Step.{Step}
@@ -150,8 +150,8 @@ table =
     -- [In use 1] where nothing was taken, after the first cycle of [Figures 2]: all five nodes were
     -- blackened, since FREE and the free nodes are too, and none is in use; after a Take one is
     figure
-    ((quiet.rec.lastblackened ∷ []) ∷ shown (in_use_lem quiet) ∷ shown
-    (in_use_lem (run (taking (at 0 0) 0 ∷ []) quiet)) ∷ [])
+    ((quiet.rec.lastblackened ∷ []) ∷ shown (in_use quiet) ∷ shown
+    (in_use (run (taking (at 0 0) 0 ∷ []) quiet)) ∷ [])
     ((5 ∷ []) ∷ (0 ∷ 0 ∷ []) ∷ (0 ∷ 1 ∷ []) ∷ []) ∷
     -- [Free count 1] in the table of [Figures 3]: when it is fresh, after the edits, which take both
     -- free nodes, and after the collector's step 80, which appends one; and of [Figures 1]
@@ -173,5 +173,5 @@ unfolding pick every first unless edge_of with_edge cleared shade_in bad_edge on
     side_code owed_code look depart link_to link pay shade_owed bad_free relink take_next take_first take shade_step
     after_roots scan_step read_step black_step append append_white append_step phase_step collect step run
     collects blank visit visit_slots visit_edges visit_from meet lowest any_edge is_hurt first_hurt
-    count_met in_use_lem free_count
+    count_met in_use free_count
 figures = (refl, (refl, (refl, (refl, (refl, (refl, (refl, (refl, (refl, (refl, tt))))))))))

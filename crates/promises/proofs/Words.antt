@@ -10,7 +10,7 @@ use Rattle.base.proofs.Tests.{pick_yes}
 use Rattle.rules.specs.Table.{State, most_nodes, most_slots}
 use Rattle.rules.specs.Phases.{tag_of, position, second}
 use Rattle.rules.specs.Check.{bound}
-use Rattle.rules.specs.InUse.{in_use_lem}
+use Rattle.rules.specs.InUse.{in_use}
 use Rattle.rules.specs.FreeCount.{free_count}
 use Rattle.rules.specs.Steps.{run, taking, linking, shading, collecting, looking}
 use Rattle.rules.specs.Schedules.{Followed, schedule, collects}
@@ -100,7 +100,7 @@ unfolding left_by deed_of
 goes (Fresh m r) h = λ z. (_, by_fresh _ _ refl refl z, refl)
 goes (Load m r lefts rights) h = λ z. (_, by_load _ _ _ refl refl z, refl)
 goes (Look p) h = λ u. once_run h u (looking p)
-goes InUse h = λ u. asked_run h u in_use_lem
+goes InUse h = λ u. asked_run h u in_use
 goes FreeCount h = λ u. asked_run h u free_count
 goes (Link p side q) h = λ u. once_run h u (linking p side q)
 goes Shade h = λ u. once_run h u shading

@@ -3,7 +3,7 @@ use Rattle.std.specs.Prelude.{ℕ, List, [], ◌∷◌, get_or, take}
 use Rattle.rules.specs.Table.{State}
 use Rattle.rules.specs.Fresh.{fresh}
 use Rattle.rules.specs.Load.{load}
-use Rattle.rules.specs.InUse.{in_use_lem}
+use Rattle.rules.specs.InUse.{in_use}
 use Rattle.rules.specs.FreeCount.{free_count}
 use Rattle.rules.specs.Steps.{step, taking, linking, shading, collecting, looking, code_of}
 use Rattle.rules.specs.Schedules.{Followed, schedule, collects}
@@ -56,7 +56,7 @@ left_by (Fresh m r) h = left_in (shown (fresh m r (h.left ∷ h.right ∷ []) h.
 left_by (Load m r lefts rights) h =
     left_in (shown (load m r (lefts ∷ rights ∷ []) (h.left ∷ h.right ∷ []) h.colour))
 left_by (Look p) h = once (looking p) h
-left_by InUse h = asked in_use_lem h
+left_by InUse h = asked in_use h
 left_by FreeCount h = asked free_count h
 left_by (Link p side q) h = once (linking p side q) h
 left_by Shade h = once shading h

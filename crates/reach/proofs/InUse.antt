@@ -16,7 +16,7 @@ use Rattle.base.proofs.Tests.{eq_yes, eq_no, pick_yes, pick_no, each, facts, spl
 use Rattle.rules.specs.Table.{State, NIL, FREE, edge_of, bad_edge}
 use Rattle.rules.specs.Check.{size_ok, check_of, check}
 use Rattle.rules.specs.Meet.{Met, num_of, meet, first_side}
-use Rattle.rules.specs.InUse.{is_hurt, first_hurt, hurt_at, count_met, in_use_lem}
+use Rattle.rules.specs.InUse.{is_hurt, first_hurt, hurt_at, count_met, in_use}
 use Rattle.rules.specs.declared.Answer.{Answer}
 use Rattle.rules.specs.declared.Answer.TheVariants.{Counted, Refused}
 use Rattle.rules.proofs.Checked.{passes}
@@ -198,8 +198,8 @@ counts_met s q =
     k : (r + 2 ≤ m) × (m ≤ 4096)
     k = checked_sizes s q
 
-pub in_use_counted : (s : State) → Counts s (in_use_lem s)
-unfolding in_use_lem
+pub in_use_counted : (s : State) → Counts s (in_use s)
+unfolding in_use
 in_use_counted s =
     split (Counts s) _ _ _ (λ q. counts_met s (eqb-true _ _ q))
     (λ q. go (eqb-false _ _ q) (check_is s))

@@ -3,7 +3,7 @@ use Rattle.base.specs.Choice.{pick}
 use Rattle.std.specs.Prelude.{ℕ, suc, ◌+◌, ◌≤◌, ◌<◌, ◌≡◌, ◌≢◌, ◌⊎◌, List, length, eqb}
 use Rattle.rules.specs.Table.{State, NIL, FREE, edge_of}
 use Rattle.rules.specs.Check.{check}
-use Rattle.rules.specs.InUse.{in_use_lem}
+use Rattle.rules.specs.InUse.{in_use}
 use Rattle.rules.specs.declared.Answer.{Answer}
 use Rattle.rules.specs.declared.Answer.TheVariants.{Counted, Refused}
 use Rattle.theory.specs.Reach.{Reach, Slot}
@@ -53,7 +53,7 @@ module _ (s : State) where
         → Number NodeInUse s.rec.m k → Counts (Counted k)
 
 abbrev pub InUseCounts : Type 0
-InUseCounts = (s : State) (a : Answer) → Exactly (in_use_lem s) (Counts s) a
+InUseCounts = (s : State) (a : Answer) → Exactly (in_use s) (Counts s) a
 
 -- where NIL's edges are 0, what is in use is what a slot reaches along the edges as they are
 pub record Reached (r : ℕ) (es : List (List ℕ)) (n : ℕ) : Type 0 where

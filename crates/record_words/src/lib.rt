@@ -10,7 +10,6 @@ ghost use Rattle.record_words.specs.Words.{NODES, SLOTS, narrow, spare};
 ghost use Rattle.rules.specs.Table.{most_nodes, most_slots, FREE};
 ghost use Rattle.rules.specs.Records.{with_owed, with_last, with_free};
 ghost use Rattle.rules.specs.Check.{position_ok, second_ok, last_ok, free_ok, counts_ok, record_ok};
-ghost use Rattle.base.specs.Lent.{was, is};
 
 use rules::{Owed, Phase, Record};
 
@@ -122,7 +121,7 @@ pub fn words_of(x: Record) -> [u32; WORDS]
 // store of one of them, and most words stay as they are.
 fn keep(words: &mut [u32; WORDS], n: usize, v: u32)
     requires { n < WORDS }
-    ensures { is words ≡ set (was words) n v }
+    ensures { words.new ≡ set words.old n v }
 {
     if words[n] == v {
         return;
@@ -133,7 +132,7 @@ fn keep(words: &mut [u32; WORDS], n: usize, v: u32)
 // Words that were a record's become these; those that have no use stay 0.
 fn lay(words: &mut [u32; WORDS], x: Record, tag: u32, i: u16, k: u16, owes: u32, n: u16)
     requires { true ≡ is_record words.old }
-    ensures { is words ≡ laid_out x tag i k owes n }
+    ensures { words.new ≡ laid_out x tag i k owes n }
 {
     let m = x.m;
     let r = x.r;
@@ -160,8 +159,8 @@ fn lay(words: &mut [u32; WORDS], x: Record, tag: u32, i: u16, k: u16, owes: u32,
 // Words that were a record's become those of this one.
 pub fn put(words: &mut [u32; WORDS], x: Record)
     requires { true ≡ is_record words.old }
-    ensures words_value { is words ≡ words_of x }
-    ensures true_value { true ≡ is_record (is words) }
+    ensures words_value { words.new ≡ words_of x }
+    ensures true_value { true ≡ is_record words.new }
 {
     let p = x.phase;
     let o = x.owed;
@@ -181,8 +180,8 @@ pub fn put(words: &mut [u32; WORDS], x: Record)
 pub fn put_owed(words: &mut [u32; WORDS], x: Record)
     requires true_value { true ≡ is_record words.old }
     requires x_value { x ≡ with_owed (record_of words.old) x.owed }
-    ensures words_value { is words ≡ words_of x }
-    ensures true_value_2 { true ≡ is_record (is words) }
+    ensures words_value { words.new ≡ words_of x }
+    ensures true_value_2 { true ≡ is_record words.new }
 {
     let o = x.owed;
     let node = owed(o);
@@ -194,8 +193,8 @@ pub fn put_owed(words: &mut [u32; WORDS], x: Record)
 pub fn put_free(words: &mut [u32; WORDS], x: Record)
     requires true_value { true ≡ is_record words.old }
     requires x_value { x ≡ with_free (with_last (record_of words.old) x.last) x.free }
-    ensures words_value { is words ≡ words_of x }
-    ensures true_value_2 { true ≡ is_record (is words) }
+    ensures words_value { words.new ≡ words_of x }
+    ensures true_value_2 { true ≡ is_record words.new }
 {
     let node = x.last;
     let count = x.free;
@@ -209,8 +208,8 @@ pub fn put_step(words: &mut [u32; WORDS], x: Record)
     requires m_value { x.m ≡ (record_of words.old).m }
     requires r_value { x.r ≡ (record_of words.old).r }
     requires owed_value { x.owed ≡ (record_of words.old).owed }
-    ensures words_value { is words ≡ words_of x }
-    ensures true_value_2 { true ≡ is_record (is words) }
+    ensures words_value { words.new ≡ words_of x }
+    ensures true_value_2 { true ≡ is_record words.new }
 {
     let p = x.phase;
     let position = rules::position(p);

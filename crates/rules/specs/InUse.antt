@@ -27,8 +27,8 @@ count_met m r es s =
     (Counted (s.tail - (r + 2)))
 
 -- [In use 2] first the codes 1 and 2; [In use 3] no colour is read
-unfoldable pub in_use_lem : State → Answer
-in_use_lem s =
+unfoldable pub in_use : State → Answer
+in_use s =
     pick (eqb (check s) 0)
     (count_met s.rec.m s.rec.r s.edges (meet s.rec.m s.rec.r s.edges))
     (refused (check s) 0)

@@ -8,7 +8,7 @@ use lib.ListN.{length}
 use Rattle.base.proofs.Tests.{eq_yes, pick_yes}
 use Rattle.rules.specs.Table.{State, FREE, left, edge, colour_of}
 use Rattle.rules.specs.Check.{check}
-use Rattle.rules.specs.InUse.{in_use_lem}
+use Rattle.rules.specs.InUse.{in_use}
 use Rattle.rules.specs.FreeCount.{free_count}
 use Rattle.rules.specs.declared.Answer.{Answer}
 use Rattle.rules.specs.declared.Answer.TheVariants.{Counted}
@@ -85,7 +85,7 @@ module _ {E : ℕ} {s : State} {ph : S.Phase} (g : Ready E s ph) where
       go (inl q) = omega (arith, g.inv.shape.bound h.3.0 x)
       go (inr q) = g.inv.shape.not_free h.3.0 x q
 
-  pub counts_used : (k : ℕ) × (in_use_lem s ≡ Counted k) × Number (Used s) s.rec.m k
+  pub counts_used : (k : ℕ) × (in_use s ≡ Counted k) × Number (Used s) s.rec.m k
   counts_used = go (in_use_counted s)
     where
       good : check s ≡ 0

@@ -10,7 +10,6 @@ ghost use Rattle.skim.specs.Stops.{stops, NoStop};
 ghost use Rattle.ahead.specs.Leads.{Passes, Room, Leads, CanShade};
 ghost use Rattle.scanning.specs.Marking.{standing, Valid, ScanLeads, CanVisit};
 ghost use Rattle.scanning.specs.Chains.{OneGray, CanFollow, Follows};
-ghost use Rattle.base.specs.Lent.{was, is};
 ghost use Rattle.rules.specs.Lent.{given};
 
 use ahead::Ahead;
@@ -73,7 +72,7 @@ fn idle_looks(colour: &[u8], m: usize, s: ScanAt, near: usize) -> usize
     requires m_bound { stops colour.now 0 m ≤ s.stops }
     requires i_lt_m { s.i < m }
     requires grayed_lt_m { s.grayed < m }
-    ensures { (result ≤ near) × NoStop (was colour) m s.i result }
+    ensures { (result ≤ near) × NoStop colour.now m s.i result }
 {
     let i = s.i;
     let t = s.grayed;
@@ -95,7 +94,7 @@ fn idle_looks(colour: &[u8], m: usize, s: ScanAt, near: usize) -> usize
 fn look_on(left: &[u16], right: &[u16], colour: &[u8], x: Record, cap: usize, s: ScanAt) -> ScanAt
     requires valid { Valid left.now right.now colour.now x cap s }
     requires room { Room x cap }
-    ensures { ScanLeads (was left) (was right) (was colour) x cap s (was colour) result }
+    ensures { ScanLeads left.now right.now colour.now x cap s colour.now result }
 {
     let m = x.m as usize;
     let e = idle_looks(colour, m, s, ahead::least(cap - s.d, s.k - 1));
@@ -113,7 +112,7 @@ fn look_on(left: &[u16], right: &[u16], colour: &[u8], x: Record, cap: usize, s:
 // Whether e is a good edge to a node with a good colour.
 fn can_shade(m: u16, colour: &[u8], e: u16) -> bool
     requires { m ≤ length colour.now }
-    ensures { result ≡ true → CanShade m (was colour) e }
+    ensures { result ≡ true → CanShade m colour.now e }
 {
     if m <= e {
         return false;
@@ -129,7 +128,7 @@ fn can_shade(m: u16, colour: &[u8], e: u16) -> bool
 fn can_visit(left: &[u16], right: &[u16], colour: &[u8], x: Record, cap: usize, s: ScanAt) -> bool
     requires valid { Valid left.now right.now colour.now x cap s }
     requires room { Room x cap }
-    ensures { result ≡ true → CanVisit (was left) (was right) (was colour) x cap s }
+    ensures { result ≡ true → CanVisit left.now right.now colour.now x cap s }
 {
     if cap - s.d < 6 {
         return false;
@@ -150,11 +149,11 @@ fn can_visit(left: &[u16], right: &[u16], colour: &[u8], x: Record, cap: usize, 
 // Shades a node; 1 where that makes it gray.
 fn shade_and_count(colour: &mut [u8], n: u16) -> usize
     requires { n < length colour.old }
-    ensures upper_bound { (result ≤ 1) × ((is colour
-        ≡ shade_in (was colour) n) ×
-        (stops (is colour) 0 (length (is colour)) ≤ stops (was colour) 0 (length (was colour)) +
+    ensures upper_bound { (result ≤ 1) × ((colour.new
+        ≡ shade_in colour.old n) ×
+        (stops colour.new 0 (length colour.new) ≤ stops colour.old 0 (length colour.old) +
         result)) }
-    ensures value { result ≡ differing (was colour) (is colour) }
+    ensures value { result ≡ differing colour.old colour.new }
 {
     let at = n as usize;
     if colour[at] == 0 {
@@ -166,7 +165,7 @@ fn shade_and_count(colour: &mut [u8], n: u16) -> usize
 
 fn blacken(colour: &mut [u8], i: usize)
     requires { i < length colour.old }
-    ensures { is colour ≡ set (was colour) i 2 }
+    ensures { colour.new ≡ set colour.old i 2 }
 {
     colour[i] = 2;
 }
@@ -195,11 +194,11 @@ fn spread(colour: &mut [u8], i: usize, e: u16, f: u16) -> Grayed
     requires f_in_bounds { f < length colour.old }
     requires i_value { get_or colour.old i 0 ≡ 1 }
     ensures more_bound { (result.more ≤ 2) × (((m : ℕ) → e < m → f < m
-        → result.node < m) × ((is colour
-        ≡ set (shade_in (shade_in (was colour) e) f) i 2) ×
-        (stops (is colour) 0 (length (is colour)) + 1 ≤ stops (was colour) 0
-        (length (was colour)) + result.more))) }
-    ensures more_value { result.more ≡ differing (was colour) (shade_in (shade_in (was colour) e) f) }
+        → result.node < m) × ((colour.new
+        ≡ set (shade_in (shade_in colour.old e) f) i 2) ×
+        (stops colour.new 0 (length colour.new) + 1 ≤ stops colour.old 0
+        (length colour.old) + result.more))) }
+    ensures more_value { result.more ≡ differing colour.old (shade_in (shade_in colour.old e) f) }
 {
     let a = shade_and_count(colour, e);
     let b = shade_and_count(colour, f);
@@ -215,7 +214,7 @@ fn visit(left: &[u16], right: &[u16], colour: &mut [u8], x: Record, cap: usize, 
     requires valid { Valid left.now right.now colour.old x cap s }
     requires room { Room x cap }
     requires can_visit { CanVisit left.now right.now colour.old x cap s }
-    ensures { ScanLeads (was left) (was right) (was colour) x cap s (is colour) result }
+    ensures { ScanLeads left.now right.now colour.old x cap s colour.new result }
 {
     let i = s.i;
     let grayed = spread(colour, i, left[i], right[i]);
@@ -270,7 +269,7 @@ fn one_gray(colour: &[u8], x: Record, cap: usize, s: ScanAt) -> bool
     requires grayed_in_bounds { s.grayed < length colour.now }
     requires m_le_most_nodes { x.m ≤ most_nodes }
     requires d_le_cap { s.d ≤ cap }
-    ensures { result ≡ true → OneGray (was colour) x cap s }
+    ensures { result ≡ true → OneGray colour.now x cap s }
 {
     if s.stops != 1 {
         return false;
@@ -288,7 +287,7 @@ fn one_gray(colour: &[u8], x: Record, cap: usize, s: ScanAt) -> bool
 // Whether the visit of a node with the edges e and f makes the node at e gray and no other.
 fn can_follow(m: u16, colour: &[u8], e: u16, f: u16) -> bool
     requires { m ≤ length colour.now }
-    ensures { result ≡ true → CanFollow m (was colour) e f }
+    ensures { result ≡ true → CanFollow m colour.now e f }
 {
     if !can_shade(m, colour, e) {
         return false;
@@ -311,7 +310,7 @@ fn can_follow(m: u16, colour: &[u8], e: u16, f: u16) -> bool
 fn pass_on(colour: &mut [u8], i: usize, n: usize)
     requires i_in_bounds { i < length colour.old }
     requires n_in_bounds { n < length colour.old }
-    ensures { is colour ≡ set (set (was colour) n 1) i 2 }
+    ensures { colour.new ≡ set (set colour.old n 1) i 2 }
 {
     colour[n] = 1;
     colour[i] = 2;
@@ -331,7 +330,7 @@ fn follow_left(
     requires room { Room x cap }
     requires one_gray { OneGray colour.old x cap s }
     requires follows { Follows left.now right.now colour.old x cap s colour.old from }
-    ensures { Follows (was left) (was right) (was colour) x cap s (is colour) result }
+    ensures { Follows left.now right.now colour.old x cap s colour.new result }
 {
     let m = x.m as usize;
     let limit = cap - (m + 5);
@@ -367,7 +366,7 @@ fn follow(
 ) -> ScanAt
     requires valid { Valid left.now right.now colour.old x cap s }
     requires room { Room x cap }
-    ensures { ScanLeads (was left) (was right) (was colour) x cap s (is colour) result }
+    ensures { ScanLeads left.now right.now colour.old x cap s colour.new result }
 {
     let m = x.m as usize;
     if !one_gray(colour, x, cap, s) {
@@ -403,7 +402,7 @@ fn look_and_visit(
 ) -> ScanAt
     requires valid { Valid left.now right.now colour.old x cap s }
     requires room { Room x cap }
-    ensures { ScanLeads (was left) (was right) (was colour) x cap s (is colour) result }
+    ensures { ScanLeads left.now right.now colour.old x cap s colour.new result }
 {
     let h = look_on(left, right, colour, x, cap, s);
     if !can_visit(left, right, colour, x, cap, h) {
@@ -424,7 +423,7 @@ fn marking(
 ) -> ScanAt
     requires valid { Valid left.now right.now colour.old x cap from }
     requires room { Room x cap }
-    ensures { ScanLeads (was left) (was right) (was colour) x cap from (is colour) result }
+    ensures { ScanLeads left.now right.now colour.old x cap from colour.new result }
 {
     let mut s = from;
     while s.d < cap {
@@ -439,8 +438,8 @@ fn marking(
 
 // How many colours stop a look: counted where many steps are to be made, else the most that can be.
 fn most_stops(colour: &[u8], cap: usize) -> usize
-    ensures { (stops (was colour) 0 (length (was colour)) ≤ result)
-        × (result ≤ length (was colour)) }
+    ensures { (stops colour.now 0 (length colour.now) ≤ result)
+        × (result ≤ length colour.now) }
 {
     if cap < colour.len() {
         return colour.len();
@@ -461,8 +460,9 @@ pub fn scans(
     requires passes { Passes (state left.now right.now colour.old x) }
     requires room { Room x cap }
     requires phase_value { x.phase ≡ Scan i k }
-    ensures { (result.d ≤ cap) × Leads (given left right colour x) result.d result.changed
-        (state (was left) (was right) (is colour) result.rec) }
+    ensures { (result.d ≤ cap) × Leads (given left.now right.now colour.old x) result.d
+        result.changed
+        (state left.now right.now colour.new result.rec) }
 {
     let from = ScanAt {
         i: i as usize,

@@ -9,7 +9,6 @@ ghost use Rattle.rules.specs.Steps.{step, collecting};
 ghost use Rattle.rules.specs.Schedules.{ran, schedule};
 ghost use Rattle.rules.specs.Changes.{changes, changes_all};
 ghost use Rattle.schedule.specs.Stands.{begun, after, Goes};
-ghost use Rattle.base.specs.Lent.{was, is};
 ghost use Rattle.rules.specs.Lent.{given, leaves};
 
 use rules::{Made, Phase, Ran, Record, Step};
@@ -88,9 +87,9 @@ fn in_phase(left: &mut [u16], right: &mut [u16], colour: &mut [u8], g: Going, ph
     requires goes { Goes g (state left.old right.old colour.old g.rec) }
     requires value { 0 ≡ check (state left.old right.old colour.old g.rec) }
     requires phase_value { phase ≡ g.rec.phase }
-    ensures { (d : Made) × ((leaves d left right colour
-        ≡ step collecting (given left right colour g.rec)) × ((d.changed
-        ≡ changes collecting (given left right colour g.rec)) × (result ≡ after g d))) }
+    ensures { (d : Made) × ((leaves d left.new right.new colour.new
+        ≡ step collecting (given left.old right.old colour.old g.rec)) × ((d.changed
+        ≡ changes collecting (given left.old right.old colour.old g.rec)) × (result ≡ after g d))) }
 {
     let x = g.rec;
     after(g, collector::phase_step(left, right, colour, x, phase))
@@ -101,9 +100,9 @@ fn in_phase(left: &mut [u16], right: &mut [u16], colour: &mut [u8], g: Going, ph
 fn any_phase(left: &mut [u16], right: &mut [u16], colour: &mut [u8], g: Going) -> Going
     requires goes { Goes g (state left.old right.old colour.old g.rec) }
     requires value { 0 ≡ check (state left.old right.old colour.old g.rec) }
-    ensures { (d : Made) × ((leaves d left right colour
-        ≡ step collecting (given left right colour g.rec)) × ((d.changed
-        ≡ changes collecting (given left right colour g.rec)) × (result ≡ after g d))) }
+    ensures { (d : Made) × ((leaves d left.new right.new colour.new
+        ≡ step collecting (given left.old right.old colour.old g.rec)) × ((d.changed
+        ≡ changes collecting (given left.old right.old colour.old g.rec)) × (result ≡ after g d))) }
 {
     let x = g.rec;
     let phase = x.phase;
@@ -123,9 +122,9 @@ fn any_phase(left: &mut [u16], right: &mut [u16], colour: &mut [u8], g: Going) -
 // codes 1 and 2 judge.
 pub fn advance(left: &mut [u16], right: &mut [u16], colour: &mut [u8], g: Going, a: Step) -> Going
     requires { Goes g (state left.old right.old colour.old g.rec) }
-    ensures { (d : Made) × ((leaves d left right colour
-        ≡ step a (given left right colour g.rec)) × ((d.changed
-        ≡ changes a (given left right colour g.rec)) × (result ≡ after g d))) }
+    ensures { (d : Made) × ((leaves d left.new right.new colour.new
+        ≡ step a (given left.old right.old colour.old g.rec)) × ((d.changed
+        ≡ changes a (given left.old right.old colour.old g.rec)) × (result ≡ after g d))) }
 {
     let x = g.rec;
     if !rules::in_limits(x, rules::bound(x.m, x.r)) {
@@ -147,9 +146,9 @@ pub fn schedule(
     colour: &mut [u8],
     rec: Record,
 ) -> Ran
-    ensures { (ran result (is left) (is right) (is colour)
-        ≡ schedule (was steps) (given left right colour rec)) × (result.changed
-        ≡ changes_all (was steps) (given left right colour rec)) }
+    ensures { (ran result left.new right.new colour.new
+        ≡ schedule steps.now (given left.old right.old colour.old rec)) × (result.changed
+        ≡ changes_all steps.now (given left.old right.old colour.old rec)) }
 {
     let mut g = begin(left.len(), right.len(), colour.len(), rec, steps.len());
     while g.at < g.end {

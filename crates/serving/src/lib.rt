@@ -9,7 +9,6 @@ ghost use Rattle.text.specs.Grammar.{read};
 ghost use Rattle.lines.specs.Lines.{prints, later};
 ghost use Rattle.session.specs.Feeding.{fold, ended, standing, stand, begun, eats};
 ghost use Rattle.serving.specs.Serving.{going, next_byte, fed, next_line};
-ghost use Rattle.base.specs.Lent.{was, is};
 ghost use Rattle.rules.specs.Lent.{given};
 
 use lines::Told;
@@ -32,8 +31,8 @@ fn later_of(
     line: &[u8],
     n: usize,
 ) -> Told
-    ensures { prints result.code result.node (state (is left) (is right) (is colour) result.rec)
-        ≡ later (read (take n (was line))) (given left right colour x) }
+    ensures { prints result.code result.node (state left.new right.new colour.new result.rec)
+        ≡ later (read (take n line.now)) (given left.old right.old colour.old x) }
 {
     let end = session::least(n, line.len());
     lines::later(left, right, colour, x, &line[0..end])
@@ -48,8 +47,8 @@ fn ended(
     out: &mut [u8],
     g: Run,
 ) -> Run
-    ensures { going result (is left) (is right) (is colour) (was line) (is out)
-        ≡ ended (going g (was left) (was right) (was colour) (was line) (was out)) }
+    ensures { going result left.new right.new colour.new line.now out.new
+        ≡ ended (going g left.old right.old colour.old line.now out.old) }
 {
     let x = g.rec;
     let told = later_of(left, right, colour, x, line, g.at);
@@ -74,9 +73,9 @@ fn next_line(
     i: usize,
 ) -> Fed
     requires { i < length input.now }
-    ensures { fed result (is left) (is right) (is colour) (is line) (is out)
-        ≡ next_line (was input) i (going g (was left) (was right) (was colour) (was line)
-        (was out)) }
+    ensures { fed result left.new right.new colour.new line.new out.new
+        ≡ next_line input.now i (going g left.old right.old colour.old line.old
+        out.old) }
 {
     let end = session::newline_from(input, i);
     let at = text::put_all(line, g.at, &input[i..end]);
@@ -104,9 +103,9 @@ fn feed(
     input: &[u8],
     i: usize,
 ) -> Run
-    ensures { going result (is left) (is right) (is colour) (is line) (is out)
-        ≡ fold next_byte (drop i (was input))
-        (going g (was left) (was right) (was colour) (was line) (was out)) }
+    ensures { going result left.new right.new colour.new line.new out.new
+        ≡ fold next_byte (drop i input.now)
+        (going g left.old right.old colour.old line.old out.old) }
 {
     let mut run = g;
     let mut next = i;
@@ -131,10 +130,10 @@ pub fn serve(
     i: usize,
 ) -> Session
     ensures { (ls rs : List ℕ)
-        → stand result (is left) (is right) (is colour) ls rs (is line) (is out)
-        ≡ fold eats (drop i (was input))
-        (standing (Stage.Serving m) g (was left) (was right) (was colour)
-        ls rs (was line) (was out)) }
+        → stand result left.new right.new colour.new ls rs line.new out.new
+        ≡ fold eats (drop i input.now)
+        (standing (Stage.Serving m) g left.old right.old colour.old
+        ls rs line.old out.old) }
 {
     let a = session::least(m, left.len());
     let b = session::least(m, right.len());
@@ -173,9 +172,9 @@ pub fn begin(
     g: Run,
 ) -> Session
     ensures { (ls rs : List ℕ)
-        → stand result (is left) (is right) (is colour) ls rs (was line) (is out)
-        ≡ begun (standing Stage.Opening g (was left) (was right) (was colour) ls rs (was line)
-        (was out)) }
+        → stand result left.new right.new colour.new ls rs line.now out.new
+        ≡ begun (standing Stage.Opening g left.old right.old colour.old ls rs line.now
+        out.old) }
 {
     let end = session::least(g.at, line.len());
     let told = lines::first(left, right, colour, &line[0..end]);

@@ -4,7 +4,6 @@
 
 ghost use Rattle.std.specs.Prelude.{◌≡◌, min, drop};
 ghost use Rattle.session.specs.Feeding.{newline_from};
-ghost use Rattle.base.specs.Lent.{was};
 
 use rules::Record;
 
@@ -50,7 +49,7 @@ pub fn least(a: usize, b: usize) -> usize
 
 // The position of the first newline from position i on, or the input's length.
 pub fn newline_from(input: &[u8], i: usize) -> usize
-    ensures { result ≡ newline_from (drop i (was input)) i }
+    ensures { result ≡ newline_from (drop i input.now) i }
 {
     let mut at = i;
     while at < input.len() {

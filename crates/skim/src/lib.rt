@@ -3,7 +3,6 @@
 
 ghost use Rattle.std.specs.Prelude.{◌≡◌, ◌+◌, ◌<◌, ◌≤◌, length};
 ghost use Rattle.skim.specs.Stops.{stop, stops, block};
-ghost use Rattle.base.specs.Lent.{was};
 
 // The colours that are read at a time: four vectors of sixteen bytes.
 const BLOCK: usize = 64;
@@ -35,7 +34,7 @@ fn wide(a: u8) -> usize
 fn stops_among(colour: &[u8], i: usize, d: usize) -> u8
     requires d_in_bounds { i + d ≤ length colour.now }
     requires d_le_block { d ≤ block }
-    ensures { (result ≤ d) × (result ≡ stops (was colour) i d) }
+    ensures { (result ≤ d) × (result ≡ stops colour.now i d) }
 {
     let mut found = 0;
     let mut j = 0;
@@ -48,7 +47,7 @@ fn stops_among(colour: &[u8], i: usize, d: usize) -> u8
 
 // How many colours stop a look.
 pub fn all_stops(colour: &[u8]) -> usize
-    ensures { result ≡ stops (was colour) 0 (length (was colour)) }
+    ensures { result ≡ stops colour.now 0 (length colour.now) }
 {
     let mut found = 0;
     let mut d = 0;
@@ -82,7 +81,7 @@ fn least(a: u8, b: u8) -> u8
 // does.
 fn first_in_block(colour: &[u8], i: usize) -> usize
     requires { i + block ≤ length colour.now }
-    ensures { (result ≤ block) × (0 ≡ stops (was colour) i result) }
+    ensures { (result ≤ block) × (0 ≡ stops colour.now i result) }
 {
     let mut first = BEHIND;
     let mut j = 0;
@@ -98,7 +97,7 @@ fn first_in_block(colour: &[u8], i: usize) -> usize
 fn until_stop_by_blocks(colour: &[u8], i: usize, most: usize) -> usize
     requires most_in_bounds { i + most ≤ length colour.now }
     requires block_le_most { block ≤ most }
-    ensures { (result ≤ most) × (0 ≡ stops (was colour) i result) }
+    ensures { (result ≤ most) × (0 ≡ stops colour.now i result) }
 {
     let mut d = 0;
     while BLOCK <= most - d {
@@ -114,7 +113,7 @@ fn until_stop_by_blocks(colour: &[u8], i: usize, most: usize) -> usize
 // The same, one at a time.
 fn until_stop_by_ones(colour: &[u8], i: usize, most: usize) -> usize
     requires { i + most ≤ length colour.now }
-    ensures { (result ≤ most) × (0 ≡ stops (was colour) i result) }
+    ensures { (result ≤ most) × (0 ≡ stops colour.now i result) }
 {
     let mut d = 0;
     while d < most {
@@ -129,7 +128,7 @@ fn until_stop_by_ones(colour: &[u8], i: usize, most: usize) -> usize
 // How many colours from i on, at most most, a look passes over.
 pub fn until_stop(colour: &[u8], i: usize, most: usize) -> usize
     requires { i + most ≤ length colour.now }
-    ensures { (result ≤ most) × (0 ≡ stops (was colour) i result) }
+    ensures { (result ≤ most) × (0 ≡ stops colour.now i result) }
 {
     if most < BLOCK {
         return until_stop_by_ones(colour, i, most);

@@ -5,7 +5,6 @@ ghost use Rattle.std.specs.Prelude.{◌≡◌, ℕ, ◌<◌, List, [], ◌∷◌
 ghost use Rattle.rules.specs.Table.{state, edge_of, with_edge, bad_edge, shade_in};
 ghost use Rattle.rules.specs.Changes.{differing};
 ghost use Rattle.rules.specs.declared.Record.{Record};
-ghost use Rattle.base.specs.Lent.{was, is};
 
 // Whether an edge is bad: at least M, or to FREE.
 pub fn bad_edge(m: u16, e: u16) -> bool
@@ -22,7 +21,7 @@ pub fn edge(left: &[u16], right: &[u16], side: u32, n: u16) -> u16
     requires side_bound { side < 2 }
     requires n_in_bounds { n < length left.now }
     requires n_in_bounds_2 { n < length right.now }
-    ensures { result ≡ edge_of (was left ∷ was right ∷ []) side n }
+    ensures { result ≡ edge_of (left.now ∷ right.now ∷ []) side n }
 {
     let at = n as usize;
     if side == 0 {
@@ -36,8 +35,8 @@ pub fn set_edge(left: &mut [u16], right: &mut [u16], side: u32, n: u16, t: u16)
     requires side_bound { side < 2 }
     requires n_in_bounds { n < length left.old }
     requires n_in_bounds_2 { n < length right.old }
-    ensures { (c : List ℕ) (x : Record) → state (is left) (is right) c x
-        ≡ with_edge (state (was left) (was right) c x) side n t }
+    ensures { (c : List ℕ) (x : Record) → state left.new right.new c x
+        ≡ with_edge (state left.old right.old c x) side n t }
 {
     let at = n as usize;
     if side == 0 {
@@ -50,8 +49,8 @@ pub fn set_edge(left: &mut [u16], right: &mut [u16], side: u32, n: u16, t: u16)
 // [Table 11] Makes a white node gray: 1 where it was white, else 0.
 pub fn shade_node(colour: &mut [u8], n: u16) -> u8
     requires { n < length colour.old }
-    ensures colour_value { is colour ≡ shade_in (was colour) n }
-    ensures value { result ≡ differing (was colour) (is colour) }
+    ensures colour_value { colour.new ≡ shade_in colour.old n }
+    ensures value { result ≡ differing colour.old colour.new }
 {
     let at = n as usize;
     if colour[at] == 0 {

@@ -9,7 +9,6 @@ ghost use Rattle.rules.specs.Steps.{step, taking};
 ghost use Rattle.rules.specs.Changes.{differing, changes};
 ghost use Rattle.rules.specs.Facts.{Checked};
 ghost use Rattle.rules.specs.declared.Record.{Record};
-ghost use Rattle.base.specs.Lent.{was, is};
 ghost use Rattle.rules.specs.Lent.{given, leaves};
 
 use places::Source;
@@ -48,10 +47,10 @@ fn relink(
     requires f_in_bounds { f < length left.old }
     requires f_in_bounds_2 { f < length right.old }
     requires f_in_bounds_3 { f < length colour.old }
-    ensures x_value { (x : Record) → state (is left) (is right) (is colour) x
-        ≡ relink (given left right colour x) n side f g }
-    ensures colour_value { is colour ≡ shade_in (was colour) f }
-    ensures value { result ≡ differing (was colour) (is colour) }
+    ensures x_value { (x : Record) → state left.new right.new colour.new x
+        ≡ relink (given left.old right.old colour.old x) n side f g }
+    ensures colour_value { colour.new ≡ shade_in colour.old f }
+    ensures value { result ≡ differing colour.old colour.new }
 {
     table::set_edge(left, right, side, n, f);
     table::set_edge(left, right, 0, 1, g);
@@ -74,9 +73,9 @@ fn take_next(
     requires n_lt_m { n < x.m }
     requires f_lt_m { f < x.m }
     requires side_bound { side < 2 }
-    ensures colour_value { leaves result left right colour
-        ≡ take_next (given left right colour x) n side f g }
-    ensures changed_value { result.changed ≡ differing (was colour) (is colour) }
+    ensures colour_value { leaves result left.new right.new colour.new
+        ≡ take_next (given left.old right.old colour.old x) n side f g }
+    ensures changed_value { result.changed ≡ differing colour.old colour.new }
 {
     if bad_free(x.m, x.r, g) {
         return rules::refusal_with(7, f, rules::LEFT, x);
@@ -120,8 +119,9 @@ fn take_first(
     requires checked { Checked (length left.old) (length right.old) (length colour.old) x }
     requires n_lt_m { n < x.m }
     requires side_bound { side < 2 }
-    ensures colour_value { leaves result left right colour ≡ take_first (given left right colour x) side f n }
-    ensures changed_value { result.changed ≡ differing (was colour) (is colour) }
+    ensures colour_value { leaves result left.new right.new colour.new
+        ≡ take_first (given left.old right.old colour.old x) side f n }
+    ensures changed_value { result.changed ≡ differing colour.old colour.new }
 {
     if bad_free(x.m, x.r, f) {
         return rules::refusal_with(7, 1, rules::LEFT, x);
@@ -145,10 +145,11 @@ fn take_from(
     requires checked { Checked (length left.old) (length right.old) (length colour.old) x }
     requires slot_lt_r { p.slot < x.r }
     requires side_bound { side < 2 }
-    ensures colour_value { leaves result left right colour
-        ≡ depart (given left right colour x) p
-        (take_first (given left right colour x) side (edge_of (was left ∷ was right ∷ []) 0 1)) }
-    ensures changed_value { result.changed ≡ differing (was colour) (is colour) }
+    ensures colour_value { leaves result left.new right.new colour.new
+        ≡ depart (given left.old right.old colour.old x) p
+        (take_first (given left.old right.old colour.old x) side (edge_of (left.old ∷ right.old ∷
+        []) 0 1)) }
+    ensures changed_value { result.changed ≡ differing colour.old colour.new }
 {
     let from = places::depart(left, right, x.m, p);
     match from {
@@ -170,9 +171,10 @@ pub fn take_passed(
     side: u32,
 ) -> Made
     requires { 0 ≡ check (state left.old right.old colour.old x) }
-    ensures colour_value { leaves result left right colour
-        ≡ step (taking p side) (given left right colour x) }
-    ensures changed_value { result.changed ≡ changes (taking p side) (given left right colour x) }
+    ensures colour_value { leaves result left.new right.new colour.new
+        ≡ step (taking p side) (given left.old right.old colour.old x) }
+    ensures changed_value { result.changed
+        ≡ changes (taking p side) (given left.old right.old colour.old x) }
 {
     let code = places::edit_code(x, p, side, 0);
     if code != 0 {
@@ -190,9 +192,10 @@ pub fn take(
     p: Place,
     side: u32,
 ) -> Made
-    ensures colour_value { leaves result left right colour
-        ≡ step (taking p side) (given left right colour x) }
-    ensures changed_value { result.changed ≡ changes (taking p side) (given left right colour x) }
+    ensures colour_value { leaves result left.new right.new colour.new
+        ≡ step (taking p side) (given left.old right.old colour.old x) }
+    ensures changed_value { result.changed
+        ≡ changes (taking p side) (given left.old right.old colour.old x) }
 {
     let code = rules::check(left.len(), right.len(), colour.len(), x);
     if code != 0 {

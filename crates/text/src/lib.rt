@@ -8,7 +8,6 @@ ghost use Rattle.text.specs.Grammar.{letters_at, turns_at, place_at, take_line, 
 ghost use Rattle.text.specs.Grammar.{shade_line, look_line, collect_line, first_line, counted};
 ghost use Rattle.text.specs.Grammar.{longest, read, is_export, entry_line, entry};
 ghost use Rattle.text.specs.Answers.{digit_of, decimal, said, written, put, put_all};
-ghost use Rattle.base.specs.Lent.{was, is};
 
 use rules::Step;
 
@@ -101,7 +100,7 @@ pub enum Listed {
 
 // The byte at a position; 256 past the end.
 fn byte_at(line: &[u8], i: usize) -> u16
-    ensures { result ≡ byte_at (was line) i }
+    ensures { result ≡ byte_at line.now i }
 {
     if i < line.len() {
         return line[i] as u16;
@@ -111,7 +110,7 @@ fn byte_at(line: &[u8], i: usize) -> u16
 
 // The position behind a word that stands at i; LOST where it does not.
 fn after(line: &[u8], i: usize, word: &[u8]) -> usize
-    ensures { result ≡ after (was line) i (was word) }
+    ensures { result ≡ after line.now i word.now }
 {
     let mut at = i;
     let mut k = 0;
@@ -135,7 +134,7 @@ fn is_digit(b: u16) -> bool
 }
 
 fn digits_at(line: &[u8], i: usize) -> Number
-    ensures { result ≡ digits_at (was line) 7 0 i }
+    ensures { result ≡ digits_at line.now 7 0 i }
 {
     let mut n: u32 = 0;
     let mut at = i;
@@ -153,7 +152,7 @@ fn digits_at(line: &[u8], i: usize) -> Number
 }
 
 fn number_at(line: &[u8], i: usize) -> Number
-    ensures { result ≡ number_at (was line) i }
+    ensures { result ≡ number_at line.now i }
 {
     let b = byte_at(line, i);
     if !is_digit(b) {
@@ -169,7 +168,7 @@ fn number_at(line: &[u8], i: usize) -> Number
 }
 
 fn side_at(line: &[u8], i: usize) -> Side
-    ensures { result ≡ side_at (was line) i }
+    ensures { result ≡ side_at line.now i }
 {
     let b = byte_at(line, i);
     if b == 76 {
@@ -182,7 +181,7 @@ fn side_at(line: &[u8], i: usize) -> Side
 }
 
 fn letters_at(line: &[u8], i: usize) -> Turns
-    ensures { result ≡ letters_at (was line) longest 0 0 1 i }
+    ensures { result ≡ letters_at line.now longest 0 0 1 i }
 {
     let mut count: u32 = 0;
     let mut word: u32 = 0;
@@ -204,7 +203,7 @@ fn letters_at(line: &[u8], i: usize) -> Turns
 }
 
 fn turns_at(line: &[u8], i: usize) -> Turns
-    ensures { result ≡ turns_at (was line) i }
+    ensures { result ≡ turns_at line.now i }
 {
     if byte_at(line, i) == 45 {
         return Turns {
@@ -225,7 +224,7 @@ fn turns_at(line: &[u8], i: usize) -> Turns
 }
 
 fn place_at(line: &[u8], i: usize, word: &[u8]) -> Spot
-    ensures { result ≡ place_at (was line) i (was word) }
+    ensures { result ≡ place_at line.now i word.now }
 {
     let slot = number_at(line, i);
     let path = turns_at(line, after(line, slot.at, word));
@@ -238,7 +237,7 @@ fn place_at(line: &[u8], i: usize, word: &[u8]) -> Spot
 }
 
 fn take_line(line: &[u8]) -> Form
-    ensures { result ≡ take_line (was line) }
+    ensures { result ≡ take_line line.now }
 {
     let p = place_at(line, after(line, 0, b"op=take slot="), b" turns=");
     let s = side_at(line, after(line, p.at, b" side="));
@@ -256,7 +255,7 @@ fn take_line(line: &[u8]) -> Form
 }
 
 fn link_line(line: &[u8]) -> Form
-    ensures { result ≡ link_line (was line) }
+    ensures { result ≡ link_line line.now }
 {
     let p = place_at(line, after(line, 0, b"op=link slot="), b" turns=");
     let s = side_at(line, after(line, p.at, b" side="));
@@ -275,7 +274,7 @@ fn link_line(line: &[u8]) -> Form
 }
 
 fn shade_line(line: &[u8]) -> Form
-    ensures { result ≡ shade_line (was line) }
+    ensures { result ≡ shade_line line.now }
 {
     let at = after(line, 0, b"op=shade");
     let step = Step {
@@ -292,7 +291,7 @@ fn shade_line(line: &[u8]) -> Form
 }
 
 fn look_line(line: &[u8]) -> Form
-    ensures { result ≡ look_line (was line) }
+    ensures { result ≡ look_line line.now }
 {
     let p = place_at(line, after(line, 0, b"op=look slot="), b" turns=");
     let step = Step {
@@ -309,13 +308,13 @@ fn look_line(line: &[u8]) -> Form
 }
 
 fn collect_line(line: &[u8]) -> Number
-    ensures { result ≡ collect_line (was line) }
+    ensures { result ≡ collect_line line.now }
 {
     number_at(line, after(line, 0, b"op=collect count="))
 }
 
 fn first_line(line: &[u8]) -> Sizes
-    ensures { result ≡ first_line (was line) }
+    ensures { result ≡ first_line line.now }
 {
     let m = number_at(line, after(line, 0, b"nodes="));
     let r = number_at(line, after(line, m.at, b" slots="));
@@ -337,7 +336,7 @@ fn counted(n: u32) -> Said
 
 // What a line says; a line over 80 bytes is unreadable.
 pub fn read(line: &[u8]) -> Said
-    ensures { result ≡ read (was line) }
+    ensures { result ≡ read line.now }
 {
     let end = line.len();
     if LONGEST < end {
@@ -376,13 +375,13 @@ pub fn read(line: &[u8]) -> Said
 
 // Whether a line begins an export, well formed or not.
 pub fn is_export(line: &[u8]) -> bool
-    ensures { result ≡ is_export (was line) }
+    ensures { result ≡ is_export line.now }
 {
     after(line, 0, b"node=") < LOST
 }
 
 fn entry_line(line: &[u8]) -> Row
-    ensures { result ≡ entry_line (was line) }
+    ensures { result ≡ entry_line line.now }
 {
     let n = number_at(line, after(line, 0, b"node="));
     let l = number_at(line, after(line, n.at, b" left="));
@@ -397,7 +396,7 @@ fn entry_line(line: &[u8]) -> Row
 
 // What the line of an export says where the edges of node n are due.
 pub fn entry(line: &[u8], n: usize) -> Listed
-    ensures { result ≡ entry (was line) n }
+    ensures { result ≡ entry line.now n }
 {
     let end = line.len();
     if LONGEST < end {
@@ -416,7 +415,7 @@ pub fn entry(line: &[u8], n: usize) -> Listed
 
 // One byte more of the output, where there is room; answers how much is used.
 pub fn put(out: &mut [u8], used: usize, b: u8) -> usize
-    ensures { written (is out) result ≡ put (written (was out) used) b }
+    ensures { written out.new result ≡ put (written out.old used) b }
 {
     if used < out.len() {
         out[used] = b;
@@ -428,8 +427,8 @@ pub fn put(out: &mut [u8], used: usize, b: u8) -> usize
 // Bytes more of the output, which has room for all of them.
 fn put_whole(out: &mut [u8], used: usize, word: &[u8])
     requires { used + length word.now ≤ length out.old }
-    ensures { written (is out) (used + length (was word))
-        ≡ put_all (written (was out) used) (was word) }
+    ensures { written out.new (used + length word.now)
+        ≡ put_all (written out.old used) word.now }
 {
     let mut k = 0;
     while k < word.len() {
@@ -440,7 +439,7 @@ fn put_whole(out: &mut [u8], used: usize, word: &[u8])
 
 // Bytes more of the output, one by one, as far as there is room; answers how much is used.
 fn put_part(out: &mut [u8], used: usize, word: &[u8]) -> usize
-    ensures { written (is out) result ≡ put_all (written (was out) used) (was word) }
+    ensures { written out.new result ≡ put_all (written out.old used) word.now }
 {
     let mut at = used;
     let mut k = 0;
@@ -453,7 +452,7 @@ fn put_part(out: &mut [u8], used: usize, word: &[u8]) -> usize
 
 // Bytes more of the output, as far as there is room; answers how much is used.
 pub fn put_all(out: &mut [u8], used: usize, word: &[u8]) -> usize
-    ensures { written (is out) result ≡ put_all (written (was out) used) (was word) }
+    ensures { written out.new result ≡ put_all (written out.old used) word.now }
 {
     if out.len() < used {
         return put_part(out, used, word);
@@ -467,7 +466,7 @@ pub fn put_all(out: &mut [u8], used: usize, word: &[u8]) -> usize
 
 fn digit(out: &mut [u8], used: usize, n: u16, ten: u16) -> usize
     requires { 0 < ten }
-    ensures { written (is out) result ≡ put_all (written (was out) used) (digit_of n ten) }
+    ensures { written out.new result ≡ put_all (written out.old used) (digit_of n ten) }
 {
     if n < ten {
         return used;
@@ -476,7 +475,7 @@ fn digit(out: &mut [u8], used: usize, n: u16, ten: u16) -> usize
 }
 
 fn decimal(out: &mut [u8], used: usize, n: u16) -> usize
-    ensures { written (is out) result ≡ put_all (written (was out) used) (decimal n) }
+    ensures { written out.new result ≡ put_all (written out.old used) (decimal n) }
 {
     let a = digit(out, used, n, 10000);
     let b = digit(out, a, n, 1000);
@@ -488,7 +487,7 @@ fn decimal(out: &mut [u8], used: usize, n: u16) -> usize
 // Puts an answer's line behind the bytes of the output that are used, as far as there is room;
 // answers how many are used then.
 pub fn say(out: &mut [u8], used: usize, code: u8, node: u16) -> usize
-    ensures { written (is out) result ≡ put_all (written (was out) used) (said code node) }
+    ensures { written out.new result ≡ put_all (written out.old used) (said code node) }
 {
     let a = put_all(out, used, b"code=");
     let b = decimal(out, a, code as u16);

@@ -6,7 +6,6 @@ ghost use Rattle.std.specs.Prelude.{◌≡◌, List, ℕ, ◌<◌, length, get_o
 ghost use Rattle.session.specs.Feeding.{stand, emptied, block, bare, closed, finish, turn};
 ghost use Rattle.session.specs.Feeding.{is_over, is_stopped, started};
 ghost use Rattle.transcript.specs.Leads.{Leads, form_of};
-ghost use Rattle.base.specs.Lent.{was, is};
 
 use rules::Record;
 use session::{Run, Session, Stage};
@@ -34,7 +33,7 @@ pub enum Form {
 // What the line at hand is, of which so many bytes are used: the line after the first begins an
 // export, or is a step.
 fn form_of(stage: Stage, line: &[u8], at: usize) -> Form
-    ensures { result ≡ form_of stage (take at (was line)) }
+    ensures { result ≡ form_of stage (take at line.now) }
 {
     match stage {
         Stage::Opening => Form::First,
@@ -66,9 +65,9 @@ fn end_line(
 ) -> Led
     requires i_in_bounds { i < length input.now }
     requires i_value { get_or input.now i 0 ≡ 10 }
-    ensures { Leads i result.next (was input)
-        (stand s (was left) (was right) (was colour) (was lefts) (was rights) (was line) (was out))
-        (stand result.s (is left) (is right) (is colour) (is lefts) (is rights) (is line) (is out)) }
+    ensures { Leads i result.next input.now
+        (stand s left.old right.old colour.old lefts.old rights.old line.old out.old)
+        (stand result.s left.new right.new colour.new lefts.new rights.new line.new out.new) }
 {
     let stage = s.stage;
     let g = s.run;
@@ -107,9 +106,9 @@ fn lead(
     i: usize,
 ) -> Led
     requires { i < length input.now }
-    ensures { Leads i result.next (was input)
-        (stand s (was left) (was right) (was colour) (was lefts) (was rights) (was line) (was out))
-        (stand result.s (is left) (is right) (is colour) (is lefts) (is rights) (is line) (is out)) }
+    ensures { Leads i result.next input.now
+        (stand s left.old right.old colour.old lefts.old rights.old line.old out.old)
+        (stand result.s left.new right.new colour.new lefts.new rights.new line.new out.new) }
 {
     if is_over(s) {
         return Led {
@@ -207,9 +206,9 @@ pub fn block(
     s: Session,
     input: &[u8],
 ) -> Session
-    ensures { stand result (is left) (is right) (is colour) (is lefts) (is rights) (is line)
-        (is out) ≡ block (was input) (stand s (was left) (was right) (was colour) (was lefts)
-        (was rights) (was line) (was out)) }
+    ensures { stand result left.new right.new colour.new lefts.new rights.new line.new
+        out.new ≡ block input.now (stand s left.old right.old colour.old lefts.old
+        rights.old line.old out.old) }
 {
     let mut t = emptied(s);
     let mut next = 0;
@@ -241,8 +240,8 @@ fn bare(s: Session) -> bool
 
 // The input is at its end: an export that is not ends the run.
 fn closed(out: &mut [u8], s: Session) -> Session
-    ensures { (l r c ls rs line : List ℕ) → stand result l r c ls rs line (is out)
-        ≡ closed s.stage (stand s l r c ls rs line (was out)) }
+    ensures { (l r c ls rs line : List ℕ) → stand result l r c ls rs line out.new
+        ≡ closed s.stage (stand s l r c ls rs line out.old) }
 {
     let run = s.run;
     let stage = s.stage;
@@ -267,9 +266,9 @@ pub fn finish(
     out: &mut [u8],
     s: Session,
 ) -> Session
-    ensures { stand result (is left) (is right) (is colour) (is lefts) (is rights) (is line)
-        (is out) ≡ finish (stand s (was left) (was right) (was colour) (was lefts) (was rights)
-        (was line) (was out)) }
+    ensures { stand result left.new right.new colour.new lefts.new rights.new line.new
+        out.new ≡ finish (stand s left.old right.old colour.old lefts.old rights.old
+        line.old out.old) }
 {
     if bare(s) {
         return closed(out, emptied(s));
@@ -291,9 +290,9 @@ pub fn turn(
     input: &[u8],
     n: usize,
 ) -> Session
-    ensures { stand result (is left) (is right) (is colour) (is lefts) (is rights) (is line)
-        (is out) ≡ turn n (was input) (stand s (was left) (was right) (was colour) (was lefts)
-        (was rights) (was line) (was out)) }
+    ensures { stand result left.new right.new colour.new lefts.new rights.new line.new
+        out.new ≡ turn n input.now (stand s left.old right.old colour.old lefts.old
+        rights.old line.old out.old) }
 {
     if n == 0 {
         return finish(left, right, colour, lefts, rights, line, out, s);

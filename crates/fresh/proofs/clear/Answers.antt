@@ -1,0 +1,23 @@
+-- `clear` meets its contract: the edges from i up to n are 0, those from n on are as they were; at
+-- i = 0 that is the contract.
+use Prim.Native.Nat.{◌≤◌}
+use native.Mathlib.Omega.{arith}
+use mathlib.Core.Path.{◌≡◌, refl}
+use mathlib.Core.List.{◌++◌}
+use lib.ListN.{length, drop, length-set}
+use Rattle.rules.specs.Fresh.{tabulate, no_edge}
+use Rattle.fresh.proofs.Fills.{down, done}
+use Rattle.fresh.proofs.clear.Goals as goal
+
+pub loop-i-init : goal.loop-i-init
+loop-i-init c = (omega arith, omega arith, refl)
+
+pub loop-i-preserved : goal.loop-i-preserved
+loop-i-preserved c = (
+  simp length-set (omega arith),
+  simp length-set (omega arith),
+  down no_edge _ _ _ _ _ (omega arith) (omega arith) refl c.loop-i.invariant.2,
+)
+
+pub returns : goal.returns
+returns c = done no_edge _ _ _ (omega arith) c.loop-i.invariant.2

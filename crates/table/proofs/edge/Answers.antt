@@ -1,0 +1,10 @@
+-- The side is 0 or 1, and the entry read is that list's.
+use borrow.Author.Rules.{rules}
+use Rattle.rules.proofs.Laws.{on_left, on_right}
+use Rattle.table.proofs.edge.Goals as goal
+
+pub returns-then-side-eq0 : goal.returns-then-side-eq0
+returns-then-side-eq0 c = search (on_left, rules)
+
+pub returns : goal.returns
+returns c = search (on_right, rules)
