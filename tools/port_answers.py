@@ -9,6 +9,25 @@ names = json.load(open(names_json))
 H = lambda s: s.replace('_', '-')
 TOK = re.compile(r"[^\s(){}\[\],;.]+(?:\.[^\s(){}\[\],;.]+)*")
 
+import glob
+LABELS = {}
+for p in glob.glob(os.path.join(crate_folder, '..', '*', 'src', '*.rt')):
+    cr = p.split('/')[-3]
+    text = open(p).read()
+    impl = None
+    name = None
+    for l in text.split('\n'):
+        m = re.match(r"impl (\w+)", l)
+        if m: impl = m.group(1)
+        if l == '}': impl = None if impl and not name else impl
+        m = re.match(r"(\s*)(?:pub )?(?:extern \"C\" )?fn (\w+)", l)
+        if m:
+            name = '%s::%s%s' % (cr, impl + '::' if impl and m.group(1) else '', m.group(2))
+            LABELS[name] = ([], [])
+        m = re.match(r"\s+(requires|ensures) (\w+) \{", l)
+        if m and name: LABELS[name][0 if m.group(1) == 'requires' else 1].append(m.group(2))
+
+
 def decls(text):
     """Splits into (comment+use header, list of declarations)."""
     lines = text.split('\n')
@@ -24,15 +43,103 @@ def decls(text):
     if cur: blocks.append(cur)
     return head, blocks
 
+def split_top(s):
+    out, depth, cur = [], 0, ''
+    for ch in s:
+        if ch in '({[': depth += 1
+        if ch in ')}]': depth -= 1
+        if ch == ',' and depth == 0:
+            out.append(cur); cur = ''
+        else: cur += ch
+    if cur.strip(): out.append(cur)
+    return out
+
+
+def tuple_to_record(body, parts):
+    s = body.rstrip()
+    if not s.endswith(')'): return None
+    depth = 0
+    for i in range(len(s) - 1, -1, -1):
+        if s[i] in ')}]': depth += 1
+        if s[i] in '({[':
+            depth -= 1
+            if depth == 0: break
+    items = split_top(s[i + 1:-1])
+    if re.search(r"\b(omega|search|grind|cc|simp|rw)\s*$", s[:i]): return None
+    if len(items) != len(parts): return None
+    return s[:i] + 'record { ' + '; '.join('%s = %s' % (n, it.strip()) for n, it in zip(parts, items)) + ' }'
+
+
+TACTICS = ('omega', 'search', 'grind', 'cc', 'simp', 'record')
+
+
+def last_part(s):
+    """Where the expression behind all `let .. in` begins."""
+    depth, at = 0, 0
+    for m in re.finditer(r"[({\[]|[)}\]]|(?<![\w.'-])in(?![\w.'-])", s):
+        g = m.group(0)
+        if g in '({[': depth += 1
+        elif g in ')}]': depth -= 1
+        elif depth == 0: at = m.end()
+    return at
+
+
+def projected(body, parts):
+    at = last_part(body)
+    e = body[at:].strip()
+    if not e or e.split()[0].strip('(') in TACTICS: return None
+    if ' ' not in e: return None
+    if e.split()[0] in ('rw', 'elim', 'absurd'): return None
+    return body[:at] + (' ' if at else ' ') + 'record { ' + '; '.join('%s = (%s).%d' % (n, e, i) for i, n in enumerate(parts)) + ' }'
+
+
+def invariant(kind, src, loops, changed, mod):
+    """An old invariant or measure of a loop, in today's form."""
+    lines = [l for l in src.split('\n')]
+    comments = [l for l in lines if l.startswith('--')]
+    rest = [l for l in lines if not l.startswith('--')]
+    old = kind.split('-', 1)
+    word, name = old[0], old[1]
+    text = '\n'.join(rest[1:])
+    unf = ''
+    m = re.match(r"(unfolding [^\n]*\n)?(\S+)((?: \S+)*?) =(.*)$", text, re.S)
+    params = m.group(3).split()
+    body = m.group(4)
+    for k, (pair, variables) in enumerate(loops):
+        if H(pair[0]) == H(name): break
+    else: return None, None
+    new = pair[1]
+    ch = changed[k]
+    subst, i = {}, 0
+    for v, c in zip(variables, ch):
+        if i >= len(params): return None, 'params'
+        subst[params[i]] = 'l.initial.' + v if c else 'l.' + v
+        i += 1
+    for v, c in zip(variables, ch):
+        if c:
+            if i >= len(params): return None, 'params'
+            subst[params[i]] = 'l.' + v
+            i += 1
+    if i != len(params): return None, 'params %s %s' % (params, variables)
+    def put(m):
+        parts = m.group(0).split('.')
+        if parts[0] in subst: parts[0] = subst[parts[0]]
+        return '.'.join(parts)
+    body = TOK.sub(put, body)
+    head = 'abbrev pub %s-%s : goal.%s-%s\n' % (word, new, word, new)
+    return '\n'.join(comments + [head + (m.group(1) or '') + '%s-%s l =%s' % (word, new, body)]), None
+
+
 def convert(fn, key, path):
     d = names[key]
     text = open(path).read()
     head, blocks = decls(text)
-    steps, fields = {}, {}
+    steps, fields, callee = {}, {}, {}
     for pl in d['places']:
-        old, parent, (o, n), callee, ren = pl
+        old, parent, (o, n), cal, ren = pl
         if o:
             steps.setdefault(H(o), n)
+            if cal: callee.setdefault(H(o), cal)
             for a, b in ren: fields.setdefault(H(o), {})[a] = b
     # arms: step old name -> list of (path, new step, new field)
     arms = {}
@@ -63,11 +170,13 @@ def convert(fn, key, path):
         s = rest[0]
         if s in ('args', 'requires', 'ranges', 'type_inv', 'auto'):
             if s == 'requires' and len(rest) > 1 and d.get('pre') and rest[1].isdigit():
-                pre = d['pre']
+                pre = d['pre']['fields']
                 try: rest[1] = pre[int(rest[1])]
                 except Exception: todo.append('requires ' + tok)
             return '.'.join(['c'] + rest)
+        if s == 'pre': return '.'.join(['c', 'requires'] + rest[1:])
         hs = H(s)
+        if hs not in steps and hs[:1].isupper() and hs[0].lower() + hs[1:] in steps: hs = hs[0].lower() + hs[1:]
         if hs in arms and len(rest) > 1 and rest[1] == 'given':
             for p, n, new in sorted(arms[hs], key=lambda x: -len(x[0])):
                 if rest[1:1 + len(p)] == p:
@@ -75,10 +184,12 @@ def convert(fn, key, path):
         if hs in steps:
             n = steps[hs]
             r2 = rest[1:]
+            if r2 and r2[0] == 'left' and hs.startswith('if'): r2 = ['false'] + r2[1:]
+            if r2 and r2[0] == 'right' and hs.startswith('if'): r2 = ['true'] + r2[1:]
             if r2 and r2[0] in fields.get(hs, {}):
                 r2 = [fields[hs][r2[0]]] + r2[1:]
-            if len(r2) > 1 and r2[0] == 'ensures' and r2[1].isdigit() and hs in clause_of:
-                cl = clause_of[hs]
+            if len(r2) > 1 and r2[0] == 'ensures' and r2[1].isdigit() and callee.get(hs) in LABELS:
+                cl = LABELS[callee[hs]][1]
                 try: r2[1] = cl[int(r2[1])]
                 except Exception: todo.append('clause ' + tok)
             return '.'.join(['c', n] + r2)
@@ -88,11 +199,19 @@ def convert(fn, key, path):
     def body_of(text):
         # place aliases
         while True:
-            m = re.search(r"let ([^\s()=:]+) =\s+((?:c|%s)(?:\.before)+) in\s*" % '|'.join(re.escape(a) for a in aliases if a != 'c') if len(aliases) > 1 else r"let ([^\s()=:]+) =\s+(c(?:\.before)+) in\s*", text)
+            m = re.search(r"let ([^\s()=:]+) =\s+((?:c|%s)(?:\.before)+)\s+in\s+" % '|'.join(re.escape(a) for a in aliases if a != 'c') if len(aliases) > 1 else r"let ([^\s()=:]+) =\s+(c(?:\.before)+)\s+in\s+", text)
             if not m: break
             aliases.add(m.group(1))
             text = text[:m.start()] + text[m.end():]
-        return TOK.sub(lambda m: path_of(m.group(0)), text)
+        text = TOK.sub(lambda m: path_of(m.group(0)), text)
+        for m in list(re.finditer(r"let (\S+) =\s+c\.(\S+)\.ensures\s+in\s", text)):
+            cal = next((callee.get(o) for o, n in steps.items() if n == m.group(2) and callee.get(o)), None)
+            lab = LABELS.get(cal, ([], []))[1]
+            if lab: text = re.sub(r"(?<![\w.-])%s\.(\d+)" % re.escape(m.group(1)), lambda k: m.group(1) + '.' + lab[int(k.group(1))], text)
+        for m in list(re.finditer(r"let (\S+) =\s+c\.requires\s+in\s", text)):
+            lab = d['pre']['fields'] if d.get('pre') else None
+            if lab: text = re.sub(r"(?<![\w.-])%s\.(\d+)" % re.escape(m.group(1)), lambda k: m.group(1) + '.' + lab[int(k.group(1))], text)
+        return text
 
     local = {}
     for b in blocks:
@@ -126,8 +245,12 @@ def convert(fn, key, path):
         bodytext = mb.group(2)
         if bodytext.strip() in ('search rules', 'omega arith', 'grind arith') and not unf: continue
         nb = body_of(bodytext)
-        if old in asked or new in asked:
-            todo.append('asked %s %s' % (new, asked.get(new) or asked.get(old)))
+        parts = asked.get(old) or asked.get(oldk) or next((v for k, v in asked.items() if H(k) == H(old)), None)
+        if parts:
+            nb2 = tuple_to_record(nb, parts)
+            if nb2 is None: nb2 = projected(nb, parts)
+            if nb2 is None: todo.append('asked %s %s' % (new, parts))
+            else: nb = nb2
         out.append('\n'.join(comments + ['pub %s : goal.%s' % (new, new)] + unf + ['%s c =%s' % (new, nb)]))
     uses = [l for l in head if not re.search(r"\.(Statement\.\{statement\}|Tie as tie)$", l) ]
     return head, uses, own, out, inv, todo, d
@@ -152,7 +275,11 @@ def main():
             invs = []
             for oldname, kind, src in inv:
                 loops = d['loops']
-                invs.append('-- OLD %s (loops %s)\n%s' % (kind, json.dumps(loops), '\n'.join('-- ' + l for l in src.split('\n'))))
+                got, why = invariant(kind, src, loops, d['changed'], mod)
+                if got: invs.append(got)
+                else:
+                    todo.append('INVARIANT %s %s' % (kind, why))
+                    invs.append('-- OLD %s (loops %s)\n%s' % (kind, json.dumps(loops), '\n'.join('-- ' + l for l in src.split('\n'))))
             it = '\n'.join(comment + [l for l in rest if l] + ['use %s.Given as goal' % mod]) + '\n\n' + '\n\n'.join(invs) + '\n'
             open(os.path.join(folder, 'Invariants.antt'), 'w').write(it)
         if out or own:
@@ -160,6 +287,6 @@ def main():
             open(os.path.join(folder, 'Answers.antt'), 'w').write(t)
         os.remove(path)
         if not os.listdir(folder): os.rmdir(folder)
-        if todo or inv: print(fn, 'LOOPS' if inv else '', todo)
+        if todo: print(fn, todo)
 
 main()

@@ -9,11 +9,9 @@ use Rattle.rules.specs.Fresh.{tabulate, no_edge}
 use Rattle.fresh.proofs.Fills.{down, done}
 use Rattle.fresh.proofs.clear.Given as goal
 
--- OLD invariant-loop (loops [[["loop", "loop-i"], ["edges", "n", "i"]]])
--- abbrev invariant-loop : tie.invariant-loop
--- invariant-loop edges₀ n i₀ edges i = (i ≤ length edges) × (length edges ≡ length edges₀) ×
---     (tabulate no_edge i ++ drop i edges ≡ tabulate no_edge n ++ drop n edges₀)
+abbrev pub invariant-loop-i : goal.invariant-loop-i
+invariant-loop-i l = (l.i ≤ length l.edges) × (length l.edges ≡ length l.initial.edges) ×
+    (tabulate no_edge l.i ++ drop l.i l.edges ≡ tabulate no_edge l.n ++ drop l.n l.initial.edges)
 
--- OLD decreases-loop (loops [[["loop", "loop-i"], ["edges", "n", "i"]]])
--- abbrev decreases-loop : tie.decreases-loop
--- decreases-loop edges₀ n i₀ edges i = i
+abbrev pub decreases-loop-i : goal.decreases-loop-i
+decreases-loop-i l = l.i

@@ -17,7 +17,7 @@ unfolding fresh_state
 returns c =
     let m = c.args.m in
     let linked = c.link_free-first.ensures in
-    let left = with_roots m c.args.r _ linked.0 _ _ linked.1
+    let left = with_roots m c.args.r _ linked.value _ _ linked.left_value
     c.clear.ensures in
     let right = c.clear-2.ensures ∙ ahead no_edge c.args.right.now m
     (omega arith) in

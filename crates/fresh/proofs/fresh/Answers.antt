@@ -11,10 +11,7 @@ use Rattle.fresh.proofs.fresh.Goals as goal
 pub returns-then-not-size_ok : goal.returns-then-not-size_ok
 unfolding fresh
 returns-then-not-size_ok c =
-    let bad = not_yes _ c.if-not-size_ok.true-raw ∙ c.size_ok.ensures in (
-      rw (c.refusal.ensures, c.fresh.ensures) (pick_no _ _ _ _ bad refl),
-      rw c.refusal.ensures,
-    )
+    let bad = not_yes _ c.if-not-size_ok.true-raw ∙ c.size_ok.ensures in record { colour_value = rw (c.refusal.ensures, c.fresh.ensures) (pick_no _ _ _ _ bad refl); changed_value = rw c.refusal.ensures }
 
 pub overflow_cast-nodes : goal.overflow_cast-nodes
 unfolding size_ok
@@ -36,25 +33,24 @@ fill-requires c =
 pub last_of-last-requires : goal.last_of-last-requires
 unfolding size_ok
 last_of-last-requires c =
-    let c = c
-    in
-    omega (facts, each _ (not_no _ c.if-not-size_ok.left ∙ c.size_ok.ensures))
+    omega (facts, each _ (not_no _ c.if-not-size_ok.false-raw ∙ c.size_ok.ensures))
 
 pub overflow_add-free : goal.overflow_add-free
 unfolding size_ok
 overflow_add-free c =
-    omega (facts, each _ (not_no _ c.if-not-size_ok.left ∙ c.size_ok.ensures))
+    omega (facts, each _ (not_no _ c.if-not-size_ok.false-raw ∙ c.size_ok.ensures))
 
 pub overflow_sub-free : goal.overflow_sub-free
 unfolding size_ok
 overflow_sub-free c =
-    omega (facts, each _ (not_no _ c.if-not-size_ok.left ∙ c.size_ok.ensures))
+    omega (facts, each _ (not_no _ c.if-not-size_ok.false-raw ∙ c.size_ok.ensures))
 
 pub returns : goal.returns
 unfolding fresh
-returns c = (
-  pick_yes _ _ _ _ (not_no _ c.if-not-size_ok.false-raw ∙ c.size_ok.ensures)
-      (rw (← c.fill.ensures, ← c.last_of-last.ensures)
-      (same _ _ _ _ _ _ _ _ refl c.fresh-2.ensures refl refl)),
-  refl,
-)
+returns c =
+    record {
+      colour_value = pick_yes _ _ _ _ (not_no _ c.if-not-size_ok.false-raw ∙ c.size_ok.ensures)
+          (rw (← c.fill.ensures, ← c.last_of-last.ensures)
+          (same _ _ _ _ _ _ _ _ refl c.fresh-2.ensures refl refl));
+      changed_value = refl;
+    }

@@ -14,11 +14,11 @@ use Rattle.fresh.proofs.link_free.Goals as goal
 pub returns-then-m-roots : goal.returns-then-m-roots
 returns-then-m-roots c =
     let m = c.args.m in
-    let none : c.args.r + 2 ≡ m = omega arith in (
-      after_last _ _ (omega arith),
-      rw none
-          (ahead (fresh_left m c.args.r) c.args.left.now m (omega arith)),
-    )
+    let none : c.args.r + 2 ≡ m = omega arith in record {
+      value = after_last _ _ (omega arith);
+      left_value = rw none
+          (ahead (fresh_left m c.args.r) c.args.left.now m (omega arith));
+    }
 
 pub loop-node-init : goal.loop-node-init
 loop-node-init c =
@@ -47,4 +47,4 @@ loop-node-preserved c = (
 pub returns : goal.returns
 returns c =
     let end : c.loop-node.node ≡ c.args.r + 2 = omega arith in
-    (after _ _ _ (omega arith) (omega arith), rw end at c.loop-node.invariant.3)
+    record { value = after _ _ _ (omega arith) (omega arith); left_value = rw end at c.loop-node.invariant.3 }

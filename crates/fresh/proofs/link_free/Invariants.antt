@@ -11,12 +11,10 @@ use Rattle.fresh.proofs.Fills.{ahead, down}
 use Rattle.fresh.proofs.Lefts.{after_last, after, of_free}
 use Rattle.fresh.proofs.link_free.Given as goal
 
--- OLD invariant-loop (loops [[["loop", "loop-node"], ["left", "m", "r", "roots", "node", "last"]]])
--- abbrev invariant-loop : tie.invariant-loop
--- invariant-loop left₀ m r roots node₀ last left node =
---     (r + 2 ≤ node) × (node + 1 ≤ m) × (length left ≡ m) ×
---     (tabulate (fresh_left m r) node ++ drop node left ≡ tabulate (fresh_left m r) m)
+abbrev pub invariant-loop-node : goal.invariant-loop-node
+invariant-loop-node l =
+    (l.r + 2 ≤ l.node) × (l.node + 1 ≤ l.m) × (length l.left ≡ l.m) ×
+    (tabulate (fresh_left l.m l.r) l.node ++ drop l.node l.left ≡ tabulate (fresh_left l.m l.r) l.m)
 
--- OLD decreases-loop (loops [[["loop", "loop-node"], ["left", "m", "r", "roots", "node", "last"]]])
--- abbrev decreases-loop : tie.decreases-loop
--- decreases-loop left₀ m r roots node₀ last left node = node
+abbrev pub decreases-loop-node : goal.decreases-loop-node
+decreases-loop-node l = l.node

@@ -8,11 +8,9 @@ use Rattle.rules.specs.Fresh.{tabulate, all_white}
 use Rattle.fresh.proofs.Fills.{ahead, down, done}
 use Rattle.fresh.proofs.whiten.Given as goal
 
--- OLD invariant-loop (loops [[["loop", "loop-n"], ["colour", "n"]]])
--- abbrev invariant-loop : tie.invariant-loop
--- invariant-loop colour₀ n₀ colour n = (n ≤ length colour) × (length colour ≡ length colour₀) ×
---     (tabulate all_white n ++ drop n colour ≡ tabulate all_white (length colour₀))
+abbrev pub invariant-loop-n : goal.invariant-loop-n
+invariant-loop-n l = (l.n ≤ length l.colour) × (length l.colour ≡ length l.initial.colour) ×
+    (tabulate all_white l.n ++ drop l.n l.colour ≡ tabulate all_white (length l.initial.colour))
 
--- OLD decreases-loop (loops [[["loop", "loop-n"], ["colour", "n"]]])
--- abbrev decreases-loop : tie.decreases-loop
--- decreases-loop colour₀ n₀ colour n = n
+abbrev pub decreases-loop-n : goal.decreases-loop-n
+decreases-loop-n l = l.n

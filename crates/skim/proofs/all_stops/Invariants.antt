@@ -8,11 +8,9 @@ use Rattle.skim.specs.Stops.{stops}
 use Rattle.skim.proofs.Counts.{stops_none, stops_both}
 use Rattle.skim.proofs.all_stops.Given as goal
 
--- OLD invariant-loop (loops [[["loop", "loop-d"], ["colour", "found", "d"]]])
--- abbrev invariant-loop : tie.invariant-loop
--- invariant-loop colour found₀ d₀ found d =
---     (d ≤ length colour) × (found ≤ d) × (found ≡ stops colour 0 d)
+abbrev pub invariant-loop-d : goal.invariant-loop-d
+invariant-loop-d l =
+    (l.d ≤ length l.colour) × (l.found ≤ l.d) × (l.found ≡ stops l.colour 0 l.d)
 
--- OLD decreases-loop (loops [[["loop", "loop-d"], ["colour", "found", "d"]]])
--- abbrev decreases-loop : tie.decreases-loop
--- decreases-loop colour found₀ d₀ found d = length colour - d
+abbrev pub decreases-loop-d : goal.decreases-loop-d
+decreases-loop-d l = length l.colour - l.d

@@ -7,11 +7,9 @@ use Rattle.skim.specs.Stops.{Upto, block}
 use Rattle.skim.proofs.Counts.{upto_none, upto_more}
 use Rattle.skim.proofs.first_in_block.Given as goal
 
--- OLD invariant-loop (loops [[["loop", "loop-j"], ["colour", "i", "first", "j"]]])
--- abbrev invariant-loop : tie.invariant-loop
--- invariant-loop colour i first₀ j₀ first j =
---     (first ≤ block) × (j ≤ block) × Upto colour i j first
+abbrev pub invariant-loop-j : goal.invariant-loop-j
+invariant-loop-j l =
+    (l.first ≤ block) × (l.j ≤ block) × Upto l.colour l.i l.j l.first
 
--- OLD decreases-loop (loops [[["loop", "loop-j"], ["colour", "i", "first", "j"]]])
--- abbrev decreases-loop : tie.decreases-loop
--- decreases-loop colour i first₀ j₀ first j = block - j
+abbrev pub decreases-loop-j : goal.decreases-loop-j
+decreases-loop-j l = block - l.j

@@ -8,11 +8,9 @@ use Rattle.skim.specs.Stops.{stops}
 use Rattle.skim.proofs.Counts.{stops_none, stops_more}
 use Rattle.skim.proofs.stops_among.Given as goal
 
--- OLD invariant-loop (loops [[["loop", "loop-j"], ["colour", "i", "d", "found", "j"]]])
--- abbrev invariant-loop : tie.invariant-loop
--- invariant-loop colour i d found₀ j₀ found j =
---     (j ≤ d) × (found ≤ j) × (found ≡ stops colour i j)
+abbrev pub invariant-loop-j : goal.invariant-loop-j
+invariant-loop-j l =
+    (l.j ≤ l.d) × (l.found ≤ l.j) × (l.found ≡ stops l.colour l.i l.j)
 
--- OLD decreases-loop (loops [[["loop", "loop-j"], ["colour", "i", "d", "found", "j"]]])
--- abbrev decreases-loop : tie.decreases-loop
--- decreases-loop colour i d found₀ j₀ found j = d - j
+abbrev pub decreases-loop-j : goal.decreases-loop-j
+decreases-loop-j l = l.d - l.j

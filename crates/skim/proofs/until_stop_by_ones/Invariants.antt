@@ -9,11 +9,9 @@ use Rattle.skim.specs.Stops.{stops}
 use Rattle.skim.proofs.Counts.{stops_none, stops_more}
 use Rattle.skim.proofs.until_stop_by_ones.Given as goal
 
--- OLD invariant-loop (loops [[["loop", "loop-d"], ["colour", "i", "most", "d"]]])
--- abbrev invariant-loop : tie.invariant-loop
--- invariant-loop colour i most d₀ d =
---     (d ≤ most) × (0 ≡ stops colour i d)
+abbrev pub invariant-loop-d : goal.invariant-loop-d
+invariant-loop-d l =
+    (l.d ≤ l.most) × (0 ≡ stops l.colour l.i l.d)
 
--- OLD decreases-loop (loops [[["loop", "loop-d"], ["colour", "i", "most", "d"]]])
--- abbrev decreases-loop : tie.decreases-loop
--- decreases-loop colour i most d₀ d = most - d
+abbrev pub decreases-loop-d : goal.decreases-loop-d
+decreases-loop-d l = l.most - l.d

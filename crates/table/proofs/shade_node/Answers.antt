@@ -8,8 +8,8 @@ use Rattle.table.proofs.shade_node.Goals as goal
 
 pub returns-then-colour-at-eq0 : goal.returns-then-colour-at-eq0
 unfolding shade_in
-returns-then-colour-at-eq0 c = (search (tests, rules) depth 12, search (one_grayed, rules))
+returns-then-colour-at-eq0 c = record { colour_value = search (tests, rules) depth 12; value = search (one_grayed, rules) }
 
 pub returns : goal.returns
 unfolding shade_in
-returns c = (search (tests, rules) depth 12, unchanged _)
+returns c = record { colour_value = search (tests, rules) depth 12; value = unchanged _ }

@@ -1,0 +1,25 @@
+-- Codes 1 and 2 come first, as in the definition; where neither is given, the rest is one call.
+use mathlib.Core.Path.{refl, sym, ◌∙◌}
+use borrow.Author.Rules.{rules}
+use Rattle.base.proofs.Tests.{first_here}
+use Rattle.rules.specs.Editor.{link}
+use Rattle.rules.proofs.Changes.{told_none}
+use Rattle.rules.proofs.Laws.{unless_refused, step_linking}
+use Rattle.editor.proofs.link.Goals as goal
+
+pub returns-then-code-ne0 : goal.returns-then-code-ne0
+unfolding link
+returns-then-code-ne0 c =
+    let code = first_here _ _ _ _ c.check-code.ensures
+    c.if-code-ne0.true refl in record {
+      colour_value = (told_none _ _ _ _ _ (rw (step_linking, c.refusal.ensures)
+          (unless_refused _ _ _ _ code c.if-code-ne0.true)) (rw c.refusal.ensures)).0;
+      changed_value = (told_none _ _ _ _ _ (rw (step_linking, c.refusal.ensures)
+          (unless_refused _ _ _ _ code c.if-code-ne0.true)) (rw c.refusal.ensures)).1;
+    }
+
+pub link_passed-requires : goal.link_passed-requires
+link_passed-requires c = sym c.if-code-ne0.false ∙ c.check-code.ensures
+
+pub returns : goal.returns
+returns c = c.link_passed.ensures

@@ -1,0 +1,29 @@
+-- `depart` says where the source is, or why there is none: the two answers are the two cases of the
+-- definition. A source that is found lies in the table, which is what `link_to` asks.
+use native.Mathlib.Omega.{arith}
+use borrow.Author.Rules.{rules}
+use Rattle.places.proofs.Arrivals.{departs, absent, found_below}
+use Rattle.editor.proofs.link_from.Goals as goal
+
+pub link_to-requires : goal.link_to-requires
+link_to-requires c =
+    let n =
+    found_below _ _ _ _ _ _ _ _ c.depart-from.ensures c.in-Found.is
+    (omega (arith, c.requires)) in
+    omega (arith, c.requires)
+
+pub returns-in-Found : goal.returns-in-Found
+returns-in-Found c =
+    record {
+      by_index = λ k. departs _ _ _ _ _ _ c.depart-from.ensures c.in-Found.is
+          (c.link_to.ensures.by_index k);
+      changed_value = c.link_to.ensures.changed_value;
+    }
+
+pub returns-in-Missing : goal.returns-in-Missing
+returns-in-Missing c =
+    record {
+      by_index = λ k. rw c.refusal_with.ensures
+          (absent _ _ _ _ _ _ _ c.depart-from.ensures c.in-Missing.is);
+      changed_value = rw c.refusal_with.ensures;
+    }

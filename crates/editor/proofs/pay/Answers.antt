@@ -1,0 +1,40 @@
+-- Each arm is a case of the definition; a node that may be owed lies in the table.
+use mathlib.Core.Path.{subst}
+use lib.ListN.{length}
+use native.Mathlib.Omega.{arith}
+use borrow.Author.Rules.{rules}
+use Rattle.base.proofs.Tests.{tests}
+use Rattle.rules.specs.Editor.{pay}
+use Rattle.rules.specs.Facts.{Owable}
+use Rattle.rules.proofs.Changes.{unchanged}
+use Rattle.rules.proofs.Laws.{same}
+use Rattle.editor.proofs.pay.Goals as goal
+
+pub bounds-colour-at : goal.bounds-colour-at
+bounds-colour-at c = let h =
+    subst (Owable (length c.args.colour.now))
+    c.in-Node.is c.requires in
+    omega arith
+
+pub returns-then-colour-at-gt2 : goal.returns-then-colour-at-gt2
+unfolding pay
+returns-then-colour-at-gt2 c = record {
+  by_index = λ es. rw (c.refusal-then-colour-at-gt2.ensures, c.in-Node.is)
+      (search (tests, rules) depth 12);
+  changed_value = rw c.refusal-then-colour-at-gt2.ensures (unchanged _);
+}
+
+pub shade_node-changed-requires : goal.shade_node-changed-requires
+shade_node-changed-requires c =
+    let h =
+    subst (Owable (length c.args.colour.now))
+    c.in-Node.is c.requires in omega arith
+
+pub returns-in-Nothing : goal.returns-in-Nothing
+unfolding pay
+returns-in-Nothing c = record { by_index = λ es. rw (c.refusal.ensures, c.in-Nothing.is); changed_value = rw c.refusal.ensures (unchanged _) }
+
+pub returns-else-colour-at-gt2 : goal.returns-else-colour-at-gt2
+unfolding pay
+returns-else-colour-at-gt2 c =
+    record { by_index = λ es. rw c.in-Node.is (search (same, tests, rules) depth 12); changed_value = search rules }

@@ -1,0 +1,30 @@
+-- `depart` says where the source is, or why there is none: the two answers are the two cases of the
+-- definition. A source that is found lies in the table, which is what `take_first` asks.
+use native.Mathlib.Omega.{arith}
+use borrow.Author.Rules.{rules}
+use Rattle.rules.proofs.Changes.{unchanged}
+use Rattle.places.proofs.Arrivals.{departs, absent, found_below}
+use Rattle.take.proofs.take_from.Goals as goal
+
+pub take_first-requires : goal.take_first-requires
+take_first-requires c =
+    let n =
+    found_below _ _ _ _ _ _ _ _ c.depart-from.ensures c.in-Found.is
+    (omega (arith, c.requires)) in
+    omega (arith, c.requires)
+
+pub returns-in-Found : goal.returns-in-Found
+returns-in-Found c =
+    record {
+      colour_value = departs _ _ _ _ _ _ c.depart-from.ensures c.in-Found.is
+          (rw (← c.edge-f.ensures) c.take_first.ensures.colour_value);
+      changed_value = c.take_first.ensures.changed_value;
+    }
+
+pub returns-in-Missing : goal.returns-in-Missing
+returns-in-Missing c =
+    record {
+      colour_value = rw c.refusal_with.ensures
+          (absent _ _ _ _ _ _ _ c.depart-from.ensures c.in-Missing.is);
+      changed_value = rw c.refusal_with.ensures (unchanged _);
+    }
