@@ -1,7 +1,7 @@
 -- How many nodes are free: Append makes them one more, Take one less, and no other step changes
 -- their number. There are as many as the table has room for at most, and none exactly while last
 -- is FREE.
-use mathlib.Core.Path.{◌≡◌, sym, ap, ◌∙◌}
+use mathlib.Core.Path.{◌≡◌, sym, ap, subst, ◌∙◌}
 use mathlib.Core.Logic.{◌≢◌, ◌⊎◌, inl, inr}
 use mathlib.Core.List.{List, [], ◌∷◌}
 use Prim.Native.Nat.{ℕ, ◌+◌, ◌-◌, ◌≤◌}
@@ -59,7 +59,9 @@ module _ {E M T : ℕ} {s : Graph} {l : ℕ} (h : Shape E M T s l) where
       go : (fs : List ℕ) → l ≡ last_of 1 fs → ((f : ℕ) → Mem f fs → Spare E M T s f)
           → n ≡ length fs → ((l ≡ 1) × (n ≡ 0)) ⊎ ((l ≢ 1) × (n ≢ 0))
       go [] e sp q = inl (e, q)
-      go (f ∷ fs) e sp q = inr (omega (arith, (sp l (rw e (mem_last f fs))).low), omega (arith, q))
+      go (f ∷ fs) e sp q =
+          let m : Mem l (f ∷ fs) = subst (λ x. Mem x (f ∷ fs)) (sym e) (mem_last f fs) in
+          inr (omega (arith, (sp l m).low), omega (arith, q))
 
 module _ {E M T : ℕ} (sz : Sizes E M T) where
   pub count_collector : {σ σ' : State} {a : Act} {tk : Tick} → CStep E M T σ σ' a tk → Inv E M T σ
