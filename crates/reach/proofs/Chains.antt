@@ -2,7 +2,7 @@
 -- nodes are the free list.
 use Prim.Native.Nat.{ℕ, ◌+◌, ◌≤◌, ◌<◌}
 use mathlib.Core.List.{List, [], ◌∷◌}
-use mathlib.Core.Path.{◌≡◌, refl, sym, ap, ◌∙◌}
+use mathlib.Core.Path.{◌≡◌, refl, sym, ap, subst, ◌∙◌}
 use mathlib.Core.Logic.{◌≢◌, ◌⊎◌, inl, inr}
 use native.Mathlib.Decide.{ℕ_discrete, dec_lt}
 use native.Mathlib.Omega.{arith}
@@ -49,6 +49,7 @@ module _ {r : ℕ} {es : List (List ℕ)} where
   -- the chain does not come to NIL
   comes_some : {ps : List ℕ} {n : ℕ} → Comes r es ps n → (t : ℕ) → Mem t (n ∷ ps) → t ≢ 0
   comes_some first t (inl e) q = omega arith
+  comes_some first t (inr a) q = elim a [ ]
   comes_some (next c b e ne) t (inl a) q = ne (sym a ∙ q)
   comes_some (next c b e ne) t (inr a) q = comes_some c t a q
 
@@ -116,8 +117,8 @@ module _ {r : ℕ} {es : List (List ℕ)} where
           d.whole (rw (w.0, w.1) at b)
 
   -- a node whose left edge ends the chain or goes to a new node that is no root does not break it
-  pub whole_end : {ps : List ℕ} {n : ℕ} → Comes r es ps n → edge_of es right n ≡ 0 → edge_of es left n
-      ≡ 0 → ¬ Breaks r es ps n
+  pub whole_end : {ps : List ℕ} {n : ℕ} → Comes r es ps n → edge_of es right n ≡ 0
+      → edge_of es left n ≡ 0 → ¬ Breaks r es ps n
   whole_end c z e (right_edge a) = a z
   whole_end c z e (to_slot a) = omega arith
   whole_end c z e (to_passed a) = comes_some c _ a e
@@ -138,7 +139,7 @@ module _ {r : ℕ} {es : List (List ℕ)} where
   chain_ends {ps} n (f ∷ fs) c h d new high bare =
       chain_ends f fs
       (next c (whole_next (bare n (inl refl)) (rw h.1 (high f (inl refl)))
-      (rw h.1 (new f (inl refl)))) h.1 h.0)
+      (subst (λ x. ¬ Mem x (n ∷ ps)) (sym h.1) (new f (inl refl)))) h.1 h.0)
       h.2 d.1 again (λ t a. high t (inr a)) (λ t a. bare t (inr a))
     where
       again : (t : ℕ) → Mem t fs → ¬ Mem t (f ∷ n ∷ ps)
@@ -201,7 +202,8 @@ module _ {r : ℕ} {es : List (List ℕ)} where
       go (yes q) = q
       go (no q) = absurd (b (right_edge q))
 
-  bare_passed : {ps : List ℕ} {n : ℕ} → Comes r es ps n → (t : ℕ) → Mem t ps → edge_of es right t ≡ 0
+  bare_passed : {ps : List ℕ} {n : ℕ} → Comes r es ps n → (t : ℕ) → Mem t ps
+      → edge_of es right t ≡ 0
   bare_passed first t a = absurd a
   bare_passed (next c b e ne) t (inl q) = rw q (bare_node b)
   bare_passed (next c b e ne) t (inr q) = bare_passed c t q

@@ -284,7 +284,8 @@ module _ (m r : ℕ) (given edges : List (List ℕ)) (colours : List ℕ) where
   left_by : (a : Answer) → (load m r given edges colours).answer ≡ a
       → (load m r given edges colours).state ≡ (load_by m r given edges colours a).state
   unfolding load
-  left_by a q = ap (λ (b : Answer). (load_by m r given edges colours b).state) (sym judged_answer ∙ q)
+  left_by a q =
+      ap (λ (b : Answer). (load_by m r given edges colours b).state) (sym judged_answer ∙ q)
 
 -- the turns along the chain are its free nodes, which are distinct nodes of the table
 free_many : {m r : ℕ} {es : List (List ℕ)} {fs : List ℕ} → GoodEdges m es → FreeChain r es fs

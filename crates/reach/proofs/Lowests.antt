@@ -100,7 +100,8 @@ Some f es n = (side : ℕ) × (side < length es) × (f (edge_of es side n) ≡ t
 pub any_yes : (f : ℕ → Bool) (es : List (List ℕ)) (n : ℕ) → any_edge f es n ≡ true → Some f es n
 unfolding any_edge edge_of
 any_yes f [] n h = absurd (false≢true h)
-any_yes f (row ∷ rows) n h = go (either (f (get_or row n 0)) (any_edge f rows n) h) (any_yes f rows n)
+any_yes f (row ∷ rows) n h =
+    go (either (f (get_or row n 0)) (any_edge f rows n) h) (any_yes f rows n)
   where
     go : (f (get_or row n 0) ≡ true) ⊎ (any_edge f rows n ≡ true)
         → (any_edge f rows n ≡ true → Some f rows n) → Some f (row ∷ rows) n
