@@ -25,6 +25,7 @@ or_second true b q = absurd (true≢false q)
 or_second false b q = q
 
 not_among : (n : ℕ) (cs : List ℕ) → among n cs ≡ false → ¬ Mem n cs
+not_among n [] q m = elim m [ ]
 not_among n (c ∷ cs) q (inl e) = true≢false (or_first (eqb n c) (among n cs) (eq_yes n c e) ∙ q)
 not_among n (c ∷ cs) q (inr m) = not_among n cs (or_second (eqb n c) (among n cs) q) m
 
