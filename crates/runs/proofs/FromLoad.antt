@@ -19,7 +19,8 @@ use Rattle.theory.specs.Free.{Mem}
 use Rattle.theory.proofs.Reaches.{Named, Start, reach_ind}
 use Rattle.theory.proofs.Chains.{chain_inside}
 use Rattle.theory.proofs.Invariant.{Bare, Shape, Spare}
-use Rattle.reach.specs.Judged.{Accepted, Judged, bad_size, bad_edge_lem, bad_chain, shared, accepted}
+use Rattle.reach.specs.Judged.{Accepted, Judged, bad_size, bad_edge_lem, bad_chain, shared}
+use Rattle.reach.specs.Judged.{accepted}
 use Rattle.reach.proofs.Given.{Sizes, sizes, every_two, outside}
 use Rattle.reach.proofs.Judges.{load_judged, load_leaves}
 use Rattle.runs.specs.Start.{Served}

@@ -55,7 +55,8 @@ pub one_more_lem : (c : Step) (cs : List Step) → collector c ≡ true → coll
     ≡ suc (collector_steps cs)
 unfolding collector_steps
 one_more_lem c cs h =
-    if_yes (λ (n : ℕ). n + collector_steps cs ≡ suc (collector_steps cs)) _ _ _ (sym h) (omega arith)
+    if_yes (λ (n : ℕ). n + collector_steps cs ≡ suc (collector_steps cs)) _ _ _ (sym h)
+    (omega arith)
 
 pub no_more : (c : Step) (cs : List Step) → collector c ≡ false → collector_steps (c ∷ cs)
     ≡ collector_steps cs

@@ -14,7 +14,8 @@ use Rattle.base.specs.Choice.{pick, every}
 use Rattle.base.proofs.Tests.{lt_yes, le_yes, eq_yes, eq_no, or_first, or_skip, not_is, every_skip}
 use Rattle.base.proofs.Tests.{every_last, pick_yes, pick_no, tests, le_no, lt_no}
 use Rattle.rules.specs.Table.{State, edge, colour_of, most_nodes, most_slots, bad_edge, bad_colour}
-use Rattle.rules.specs.Check.{size_ok, phase_ok, owed_ok, last_ok, free_ok, bound, cycle_ok, counts_ok}
+use Rattle.rules.specs.Check.{size_ok, phase_ok, owed_ok, last_ok, free_ok, bound, cycle_ok}
+use Rattle.rules.specs.Check.{counts_ok}
 use Rattle.rules.specs.Check.{record_ok, check_of, check}
 use Rattle.rules.specs.Facts.{Tells}
 use Rattle.rules.proofs.Checked.{tells_ok}

@@ -5,7 +5,8 @@ use mathlib.Core.Path.{◌≡◌, refl}
 use mathlib.Core.List.{List, [], ◌∷◌, ◌++◌}
 use lib.ListN.{get_or}
 use Rattle.base.specs.Choice.{pick, every, first}
-use Rattle.rules.specs.Table.{State, Outcome, unless, edge_of, with_edge, cleared, shade_in, bad_edge}
+use Rattle.rules.specs.Table.{State, Outcome, unless, edge_of, with_edge, cleared, shade_in}
+use Rattle.rules.specs.Table.{bad_edge}
 use Rattle.rules.specs.Phases.{tag_of, position, second}
 use Rattle.rules.specs.Records.{one_more, after_append}
 use Rattle.rules.specs.Check.{size_ok, position_ok, second_ok, phase_ok, owed_ok, last_ok, free_ok}
@@ -136,9 +137,10 @@ pub record Recorded : Type 0 where
   pub three : trace step_three (calls_three ++ (collecting ∷ [])) (fresh_state 2 4 1) ≡ steps_three
 
 pub recorded : Recorded
-unfolding edge_of with_edge cleared shade_in bad_edge unless pick every first one_more after_append size_ok
-    position_ok second_ok phase_ok owed_ok last_ok free_ok bound cycle_ok told_ok counts_ok record_ok check_of
-    tabulate next_free fresh_left fresh_last fresh_state sides_ok turns_ok place_code walk_from arrive
-    side_code owed_code look depart link_to link pay shade_owed bad_free relink take_next take_first take
-    shade_step after_roots scan_step read_step black_step append append_white append_step phase_step collect step
+unfolding edge_of with_edge cleared shade_in bad_edge unless pick every first one_more after_append
+    size_ok position_ok second_ok phase_ok owed_ok last_ok free_ok bound cycle_ok told_ok counts_ok
+    record_ok check_of tabulate next_free fresh_left fresh_last fresh_state sides_ok turns_ok
+    place_code walk_from arrive side_code owed_code look depart link_to link pay shade_owed bad_free
+    relink take_next take_first take shade_step after_roots scan_step read_step black_step append
+    append_white append_step phase_step collect step
 recorded = record { two = refl; three = refl }
