@@ -1,6 +1,6 @@
 -- The steps of versions two and three that the page shows are those of their definitions. The
 -- numbers stand in web/versions.json too, and web/record.mjs writes both.
-use Prim.Native.Nat.{ℕ, ◌+◌, ◌-◌, ◌*◌, ◌/◌, ◌%◌}
+use Prim.Native.Nat.{ℕ}
 use mathlib.Core.Path.{◌≡◌, refl}
 use mathlib.Core.List.{List, [], ◌∷◌, ◌++◌}
 use lib.ListN.{get_or}

@@ -1,7 +1,7 @@
 -- The invariant of all runs: the sizes are good, the theory's invariant holds of the table, the
 -- bill is paid, and the free count is the length of the free list. In such a state neither code 1
 -- nor code 2 is given. Of it an editor's step needs less: a state that is ready.
-use Prim.Native.Nat.{ℕ, ◌-◌, ◌<◌}
+use Prim.Native.Nat.{ℕ, ◌<◌}
 use mathlib.Core.Path.{◌≡◌}
 use Rattle.rules.specs.Table.{State, edge, colour_of}
 use Rattle.rules.specs.Check.{bound, check}

@@ -9,7 +9,6 @@ use mathlib.Core.List.{map}
 use native.Mathlib.Omega.{arith}
 use lib.ListN.{length, get_or}
 use borrow.Author.Tests.{eqb-true, eqb-false}
-use Rattle.base.specs.Choice.{first}
 use Rattle.base.proofs.Tests.{le_yes, le_no, eq_yes, every_here, every_skip, every_last, or_skip}
 use Rattle.base.proofs.Tests.{split}
 use Rattle.rules.specs.Table.{State, did, unless, FREE, sides, edge, with_edge, colour_of, shade_in}

@@ -10,7 +10,7 @@ use lib.ListN.{length, length-append}
 use Rattle.theory.specs.Reach.{Graph}
 use Rattle.theory.specs.Free.{Chain, Mem, last_of}
 use Rattle.theory.proofs.Chains.{chain_unique, chain_distinct, distinct_few, mem_last}
-use Rattle.theory.proofs.Steps.{State, edges, last, Act, appends, other, Tick, CStep, root}
+use Rattle.theory.proofs.Steps.{State, edges, Act, appends, other, Tick, CStep, root}
 use Rattle.theory.proofs.Steps.{last_root, look, find, no_gray, edge, read, shade, blacken}
 use Rattle.theory.proofs.Steps.{whiten, append, Deed, links, pays, takes, nothing, EStep}
 use Rattle.theory.proofs.Steps.{link, pay, take, rest}
