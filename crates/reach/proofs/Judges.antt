@@ -26,7 +26,7 @@ use Rattle.theory.proofs.Chains.{chain_unique, chain_inside, distinct_few}
 use Rattle.reach.specs.Numbered.{good, good_edge, GoodReaches, Numbered}
 use Rattle.reach.specs.Judged.{SlotReaches, Lowest, BadSide, BadNode, GoodEdges, first}
 use Rattle.reach.specs.Judged.{FreeChain}
-use Rattle.reach.specs.Judged.{Judged, bad_size, bad_edge_lem, bad_chain, shared, accepted}
+use Rattle.reach.specs.Judged.{Judged, bad_size, edge_met, bad_chain, shared, accepted}
 use Rattle.reach.specs.Judged.{LoadJudges, LoadLeaves}
 use Rattle.reach.proofs.Counts.{nonzero_le}
 use Rattle.reach.proofs.Meets.{blank_at, blank_length, meet_numbers}
@@ -163,7 +163,7 @@ module _ (m r : ℕ) (given edges : List (List ℕ)) (colours : List ℕ)
 
       hit : first_bad m given < m → SaysSo (bad_at m given (first_bad m given))
       hit h =
-          bad_edge_lem ok (
+          edge_met ok (
             bad_yes given _ h (w.passes h),
             λ t l. bad_no given t
                 (w.below t (omega arith) l),
@@ -211,25 +211,25 @@ module _ (m r : ℕ) (given edges : List (List ℕ)) (colours : List ℕ) where
 
   judged_once : {a b : Answer} → J a → J b → a ≡ b
   judged_once (bad_size p) (bad_size q) = refl
-  judged_once (bad_size p) (bad_edge_lem q b d) = no_both p q
+  judged_once (bad_size p) (edge_met q b d) = no_both p q
   judged_once (bad_size p) (bad_chain q g c b) = no_both p q
   judged_once (bad_size p) (shared q g c l) = no_both p q
   judged_once (bad_size p) (accepted q a) = no_both p q
-  judged_once (bad_edge_lem p a d) (bad_size q) = no_both q p
-  judged_once (bad_edge_lem {n = n} {side = i} p a d) (bad_edge_lem {n = k} {side = j} q b e) =
+  judged_once (edge_met p a d) (bad_size q) = no_both q p
+  judged_once (edge_met {n = n} {side = i} p a d) (edge_met {n = k} {side = j} q b e) =
       let same = lowest_once (BadNode m given) n k a b in
       ap₂ (Refused 11) same (lowest_once (BadSide m given n) i j d (rw (sym same) at e))
-  judged_once (bad_edge_lem {n = n} p a d) (bad_chain q g c b) = absurd (good_none g n a.0)
-  judged_once (bad_edge_lem {n = n} p a d) (shared q g c l) = absurd (good_none g n a.0)
-  judged_once (bad_edge_lem {n = n} p a d) (accepted q b) = absurd (good_none b.edges n a.0)
+  judged_once (edge_met {n = n} p a d) (bad_chain q g c b) = absurd (good_none g n a.0)
+  judged_once (edge_met {n = n} p a d) (shared q g c l) = absurd (good_none g n a.0)
+  judged_once (edge_met {n = n} p a d) (accepted q b) = absurd (good_none b.edges n a.0)
   judged_once (bad_chain p g c b) (bad_size q) = no_both q p
-  judged_once (bad_chain p g c b) (bad_edge_lem {n = n} q a d) = absurd (good_none g n a.0)
+  judged_once (bad_chain p g c b) (edge_met {n = n} q a d) = absurd (good_none g n a.0)
   judged_once (bad_chain p g c b) (bad_chain q h d e) =
       ap (λ (i : ℕ). Refused 12 i 0) (breaks_once c b d e)
   judged_once (bad_chain p g c b) (shared q h d l) = absurd (ends_whole (free_ends d) c b)
   judged_once (bad_chain p g c b) (accepted q a) = absurd (ends_whole (free_ends a.chain) c b)
   judged_once (shared p g c l) (bad_size q) = no_both q p
-  judged_once (shared p g c l) (bad_edge_lem {n = n} q a d) = absurd (good_none g n a.0)
+  judged_once (shared p g c l) (edge_met {n = n} q a d) = absurd (good_none g n a.0)
   judged_once (shared p g c l) (bad_chain q h d e) = absurd (ends_whole (free_ends c) d e)
   judged_once (shared {n = n} {fs = fs} p g c l) (shared {n = k} q h d e) =
       ap (λ (i : ℕ). Refused 13 i 0) (lowest_once (λ n. Mem n fs × SlotReaches r given n) n k l
@@ -237,7 +237,7 @@ module _ (m r : ℕ) (given edges : List (List ℕ)) (colours : List ℕ) where
   judged_once (shared {n = n} p g c l) (accepted q a) = absurd
       (a.away n (rw (free_once c a.chain) at l.0.0) l.0.1)
   judged_once (accepted p a) (bad_size q) = no_both q p
-  judged_once (accepted p a) (bad_edge_lem {n = n} q b d) = absurd (good_none a.edges n b.0)
+  judged_once (accepted p a) (edge_met {n = n} q b d) = absurd (good_none a.edges n b.0)
   judged_once (accepted p a) (bad_chain q g c b) = absurd (ends_whole (free_ends a.chain) c b)
   judged_once (accepted p a) (shared {n = n} q g c l) = absurd
       (a.away n (rw (free_once c a.chain) at l.0.0) l.0.1)
@@ -254,7 +254,7 @@ load_judges m r given edges colours a = record {
 some_code : {m r : ℕ} {given edges : List (List ℕ)} {colours : List ℕ} {code n detail : ℕ}
     → Judged m r given edges colours (Refused code n detail) → code ≢ 0
 some_code (bad_size p) q = omega arith
-some_code (bad_edge_lem p a d) q = omega arith
+some_code (edge_met p a d) q = omega arith
 some_code (bad_chain p g c b) q = omega arith
 some_code (shared p g c l) q = omega arith
 

@@ -77,7 +77,7 @@ module _ (m r : ℕ) (given edges : List (List ℕ)) (colours : List ℕ) where
 
   pub data Judged : Answer → Type 0 where
     bad_size : load_size_ok m r given edges colours ≡ false → Judged (Refused 1 0 0)
-    bad_edge_lem : {n side : ℕ} → Sized → Lowest (BadNode m given) n
+    edge_met : {n side : ℕ} → Sized → Lowest (BadNode m given) n
         → Lowest (BadSide m given n) side → Judged (Refused 11 n side)
     bad_chain : {n : ℕ} {ps : List ℕ} → Sized → GoodEdges m given → Comes r given ps n
         → Breaks r given ps n → Judged (Refused 12 n 0)

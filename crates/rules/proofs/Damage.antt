@@ -17,7 +17,7 @@ use Rattle.rules.specs.Editor.{side_code, owed_code, look, depart, link_to, link
 use Rattle.rules.specs.Editor.{shade_owed, bad_free, take_next, take_first, take}
 use Rattle.rules.specs.Collector.{collect}
 use Rattle.rules.specs.Steps.{step, code_of, detail_of}
-use Rattle.rules.specs.Damage.{BadFree, Means, done, bad_edge_lem, bad_free_lem, bad_colour_lem}
+use Rattle.rules.specs.Damage.{BadFree, Means, done, edge_met, free_met, colour_met}
 use Rattle.rules.specs.Damage.{gray_met, root_met, last_met, other, DamageMeant}
 use Rattle.rules.specs.declared.Place.{Place}
 use Rattle.rules.specs.declared.Step.{Step}
@@ -106,18 +106,18 @@ module _ (s : State) where
     pays : (o : Owed) → Good (pay s o)
     unfolding pay
     pays Nothing = other {code = 6} (omega arith) (λ e. omega arith) (λ e. omega arith)
-    pays (Node n) = split Good _ _ _ (λ q. bad_colour_lem (ltb-true _ _ q)) (λ q. done refl refl)
+    pays (Node n) = split Good _ _ _ (λ q. colour_met (ltb-true _ _ q)) (λ q. done refl refl)
 
     takes : (side n : ℕ) → Good (take_first s side (edge s left FREE) n)
     unfolding take_first take_next
     takes side n =
-        split Good _ _ _ (λ q. bad_free_lem (inl refl) (is_bad_free _ q))
+        split Good _ _ _ (λ q. free_met (inl refl) (is_bad_free _ q))
         (λ q. split Good _ _ _
         (λ a. other (omega arith) (λ e. omega arith) (λ e. omega arith))
-        (λ a. split Good _ _ _ (λ b. bad_free_lem (inr refl) (is_bad_free _ b))
-        (λ b. split Good _ _ _ (λ c. bad_colour_lem (ltb-true _ _ c))
+        (λ a. split Good _ _ _ (λ b. free_met (inr refl) (is_bad_free _ b))
+        (λ b. split Good _ _ _ (λ c. colour_met (ltb-true _ _ c))
         (λ c. split Good _ _ _ (λ d. done refl refl)
-        (λ d. split Good _ _ _ (λ k. bad_colour_lem (ltb-true _ _ k)) (λ k. done refl refl))))))
+        (λ d. split Good _ _ _ (λ k. colour_met (ltb-true _ _ k)) (λ k. done refl refl))))))
 
   collects : Good (collect s)
   collects = collect_comes s Good record {
@@ -167,9 +167,9 @@ damage_meant c s =
 -- [Answers 5] what is done has no detail
 plain : (s : State) (a : Answer) → Means s a → code_of a ≡ 0 → detail_of a ≡ 0
 plain s a (done p q) h = q
-plain s _ (bad_edge_lem l b) h = absurd (omega arith)
-plain s _ (bad_free_lem n b) h = absurd (omega arith)
-plain s _ (bad_colour_lem b) h = absurd (omega arith)
+plain s _ (edge_met l b) h = absurd (omega arith)
+plain s _ (free_met n b) h = absurd (omega arith)
+plain s _ (colour_met b) h = absurd (omega arith)
 plain s _ (gray_met p c) h = absurd (omega arith)
 plain s _ (root_met p c l) h = absurd (omega arith)
 plain s _ (last_met p c l e) h = absurd (omega arith)

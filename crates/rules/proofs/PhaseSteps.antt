@@ -19,7 +19,7 @@ use Rattle.rules.specs.Records.{with_last, more_free, moved, marked, next, resca
 use Rattle.rules.specs.Check.{position_ok, second_ok, phase_ok, check}
 use Rattle.rules.specs.Facts.{InRange, quiet, Nears}
 use Rattle.rules.specs.Steps.{code_of, detail_of}
-use Rattle.rules.specs.Damage.{Means, bad_colour_lem, gray_met, root_met, last_met, other}
+use Rattle.rules.specs.Damage.{Means, colour_met, gray_met, root_met, last_met, other}
 use Rattle.rules.specs.Collector.{shade_step, after_roots, scan_step, read_step, black_step}
 use Rattle.rules.specs.Collector.{append, append_white, append_step, phase_step, collect}
 use Rattle.rules.specs.declared.Answer.{Answer}
@@ -154,7 +154,7 @@ module _ {s : State} {q : Phase} {P : Outcome → Type 0} (w : Covers s q P)
     (at : s.rec.phase ≡ q) (low : 3 ≤ s.rec.m) where
   bad_node : (n : ℕ) → bad_colour s n ≡ true → P (refuse s 14 n)
   bad_node n e =
-      w.stays _ (bad_colour_lem (ltb-true _ _ e), omega arith, omega arith, omega arith)
+      w.stays _ (colour_met (ltb-true _ _ e), omega arith, omega arith, omega arith)
 
   shading : (n : ℕ) (p : Phase) → true ≡ phase_ok s.rec.m s.rec.r p
       → Nears s.rec.m q p → P (shade_step s n p)

@@ -12,7 +12,7 @@ use borrow.Author.Tests.{ltb-false, leb-true, eqb-true, eqb-false}
 use Rattle.base.proofs.Tests.{split}
 use Rattle.rules.specs.Table.{State, sides, FREE, edge_of, edge, white, gray, black, bad_edge}
 use Rattle.rules.specs.Check.{check_of, check}
-use Rattle.rules.specs.Damage.{Bad, Means, bad_edge_lem}
+use Rattle.rules.specs.Damage.{Bad, Means, edge_met}
 use Rattle.rules.specs.declared.Answer.TheVariants.{Refused}
 
 -- a code of those that are judged before the table is read
@@ -62,4 +62,4 @@ module _ (s : State) where
 
   pub damaged : 3 ≤ s.rec.m → (side n : ℕ) → bad_edge s.rec.m (edge s side n) ≡ true
       → Means s (Refused 7 n side)
-  damaged low side n q = let b = is_bad _ q in bad_edge_lem (on_side low side n b) b
+  damaged low side n q = let b = is_bad _ q in edge_met (on_side low side n b) b

@@ -21,12 +21,12 @@ module _ (s : State) where
   pub data Means : Answer → Type 0 where
     done : {a : Answer} → code_of a ≡ 0 → detail_of a ≡ 0 → Means a
     -- [Codes 7] the edge of node n on the side told
-    bad_edge_lem : {n side : ℕ} → side < sides s → Bad (edge s side n) → Means (Refused 7 n side)
+    edge_met : {n side : ℕ} → side < sides s → Bad (edge s side n) → Means (Refused 7 n side)
     -- [Codes 7] the left edge of FREE, or of the first free node
-    bad_free_lem : {n : ℕ} → (n ≡ FREE) ⊎ (n ≡ edge s left FREE) → BadFree (edge s left n)
+    free_met : {n : ℕ} → (n ≡ FREE) ⊎ (n ≡ edge s left FREE) → BadFree (edge s left n)
         → Means (Refused 7 n left)
     -- [Codes 14] the colour of node n
-    bad_colour_lem : {n : ℕ} → black < colour_of s n → Means (Refused 14 n 0)
+    colour_met : {n : ℕ} → black < colour_of s n → Means (Refused 14 n 0)
     -- [Codes 15] the node i at which Append is: gray, or white and a root, or white and last
     gray_met : {i : ℕ} → s.rec.phase ≡ Append i → colour_of s i ≡ gray
         → Means (Refused 15 i gray_node)

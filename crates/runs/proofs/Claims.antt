@@ -46,7 +46,7 @@ pub no_black_to_white : {E : ℕ} (s : State) (ph : S.Phase)
     → Inv E s.rec.m (top s) (state_in s ph) → ((i : ℕ) → ph ≢ S.Appending i)
     → owes s.rec.owed ≡ none → (e x : ℕ) → e < E → colour_of s x ≡ 2
     → colour_of s (edge s e x) ≢ 0
-no_black_to_white s (S.Rooting i) v h o e x he b = absurd ((at_roots v.in_phase_lem).no_black x b)
+no_black_to_white s (S.Rooting i) v h o e x he b = absurd ((at_roots v.in_phase).no_black x b)
 no_black_to_white s S.Seeking v h o e x he b = F.no_black_to_white v F.seeking o x e he b
 no_black_to_white s (S.Working i j) v h o e x he b = F.no_black_to_white v F.working o x e he b
 no_black_to_white s (S.Holding i j n) v h o e x he b = F.no_black_to_white v F.holding o x e he b

@@ -47,7 +47,7 @@ rest_cost {E} {m} {r} (last {c = c} {s = s} e) g qm qr = go (stepped c s g)
         (s.rec.blackened + blackenings (c ∷ []) s)
     go (goes_on e₁ a k) = absurd (true≢false (sym e ∙ e₁))
     go (closes e₁ a k) =
-        let p = rw (qm, qr) at (last_paid (at_last c s g e) g.inv.in_phase_lem g.bill) in
+        let p = rw (qm, qr) at (last_paid (at_last c s g e) g.inv.in_phase g.bill) in
         let q : s.rec.blackened ≤ s.rec.blackened + blackenings (c ∷ []) s = omega arith in
         omega (arith, p, one_more_lem c [] k.kind, mul-le-mul_right (m + suc (2 * E)) q)
     go (edits e₁ h k) = absurd (true≢false (sym e ∙ e₁))

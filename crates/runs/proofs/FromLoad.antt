@@ -19,7 +19,7 @@ use Rattle.theory.specs.Free.{Mem}
 use Rattle.theory.proofs.Reaches.{Named, Start, reach_ind}
 use Rattle.theory.proofs.Chains.{chain_inside}
 use Rattle.theory.proofs.Invariant.{Bare, Shape, Spare}
-use Rattle.reach.specs.Judged.{Accepted, Judged, bad_size, bad_edge_lem, bad_chain, shared}
+use Rattle.reach.specs.Judged.{Accepted, Judged, bad_size, edge_met, bad_chain, shared}
 use Rattle.reach.specs.Judged.{accepted}
 use Rattle.reach.proofs.Given.{Sizes, sizes, every_two, outside}
 use Rattle.reach.proofs.Judges.{load_judged, load_leaves}
@@ -121,6 +121,6 @@ load_started {E} m r given edges colours few q h =
         rw ((load_leaves m r given edges colours).done last e a.free a.chain)
         (load_starts few q (sizes m r given (map length edges) (length colours) p) a)
     go _ e (bad_size p) h = absurd (omega arith)
-    go _ e (bad_edge_lem p b d) h = absurd (omega arith)
+    go _ e (edge_met p b d) h = absurd (omega arith)
     go _ e (bad_chain p g c b) h = absurd (omega arith)
     go _ e (shared p g c l) h = absurd (omega arith)

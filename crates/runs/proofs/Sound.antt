@@ -30,11 +30,11 @@ pub record Sound (E : ℕ) (s : State) : Type 0 where
   pub free : FreeCount (edge s) s.rec.free
 
 pub cycle_goes : {E : ℕ} {s : State} → Sound E s → s.rec.steps < bound E s.rec.m s.rec.r
-cycle_goes g = below_bound g.inv.in_phase_lem g.bill
+cycle_goes g = below_bound g.inv.in_phase g.bill
 
 pub checked : {E : ℕ} {s : State} → Sound E s → 0 ≡ check s
 checked {s} g =
-    let p = phase_ok_lem (view g.fits.few s.rec.phase) g.inv.in_phase_lem g.bill in
+    let p = phase_ok_lem (view g.fits.few s.rec.phase) g.inv.in_phase g.bill in
     passes g.rows g.fits g.inv g.free p (blackened_le g.bill) (cycle_goes g)
 
 pub ready : {E : ℕ} {s : State} → Sound E s → Ready E s (kind E s.rec.phase)

@@ -77,7 +77,7 @@ module _ {E M T : ℕ} (sz : Sizes E M T) where
   count_collector (blacken u) v c = c
   count_collector (whiten g u a) v c = c
   count_collector (append {i = i} g k a) v c =
-      let p = at_append v.in_phase_lem in
+      let p = at_append v.in_phase in
       let un = p.dead i (omega arith) g in
       listed_count (shape_append sz v.shape p.pos un k) (omega (
         arith,
