@@ -89,7 +89,7 @@ def projected(body, parts):
     e = body[at:].strip()
     if not e or e.split()[0].strip('(') in TACTICS: return None
     if ' ' not in e: return None
-    if e.split()[0] in ('rw', 'elim', 'absurd'): return None
+    if e.split()[0] in ('rw', 'elim', 'absurd', 'told', 'told_none'): return None
     return body[:at] + (' ' if at else ' ') + 'record { ' + '; '.join('%s = (%s).%d' % (n, e, i) for i, n in enumerate(parts)) + ' }'
 
 

@@ -126,15 +126,20 @@ two_shaded c f g h k =
 -- what a call has to show that counts the colours it changed
 pub told : (d : Made) (l r c : List ℕ) (a : Step) (s : State) → outcome d l r c ≡ step a s
     → d.changed ≡ differing s.colour c
-    → (outcome d l r c ≡ step a s) × (d.changed ≡ changes a s)
+    → record { colour_value : outcome d l r c ≡ step a s; changed_value : d.changed ≡ changes a s }
 unfolding changes
-told d l r c a s e h =
-    (e, h ∙ ap (λ (o : Outcome). differing s.colour o.state.colour) e)
+told d l r c a s e h = record {
+  colour_value = e;
+  changed_value = h ∙ ap (λ (o : Outcome). differing s.colour o.state.colour) e;
+}
 
 -- and one that changed none
 pub told_none : (d : Made) (l r : List ℕ) (a : Step) (s : State)
     → outcome d l r s.colour ≡ step a s → d.changed ≡ 0
-    → (outcome d l r s.colour ≡ step a s) × (d.changed ≡ changes a s)
+    → record {
+      colour_value : outcome d l r s.colour ≡ step a s;
+      changed_value : d.changed ≡ changes a s;
+    }
 told_none d l r a s e h = told d l r s.colour a s e (h ∙ unchanged s.colour)
 
 -- [Changes 3] a refused step changes none

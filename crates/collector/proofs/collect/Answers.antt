@@ -10,14 +10,10 @@ use Rattle.collector.proofs.collect.Goals as goal
 
 pub returns-then-code-ne0 : goal.returns-then-code-ne0
 unfolding collect
-returns-then-code-ne0 c = record {
-  colour_value = (told_none _ _ _ _ _ (rw (step_collecting, c.refusal.ensures)
-      (unless_refused _ _ _ _ c.check-code.ensures c.if-code-ne0.true))
-      (rw c.refusal.ensures)).0;
-  changed_value = (told_none _ _ _ _ _ (rw (step_collecting, c.refusal.ensures)
-      (unless_refused _ _ _ _ c.check-code.ensures c.if-code-ne0.true))
-      (rw c.refusal.ensures)).1;
-}
+returns-then-code-ne0 c =
+    told_none _ _ _ _ _ (rw (step_collecting, c.refusal.ensures)
+    (unless_refused _ _ _ _ c.check-code.ensures c.if-code-ne0.true))
+    (rw c.refusal.ensures)
 
 pub phase_step-requires : goal.phase_step-requires
 phase_step-requires c = record {
@@ -30,11 +26,7 @@ phase_step-requires c = record {
 
 pub returns : goal.returns
 unfolding collect
-returns c = record {
-  colour_value = (told _ _ _ _ _ _ (rw step_collecting (unless_done _ _ _ _ _ c.check-code.ensures
-      c.if-code-ne0.false c.phase_step.ensures.colour_value))
-      c.phase_step.ensures.changed_value).0;
-  changed_value = (told _ _ _ _ _ _ (rw step_collecting (unless_done _ _ _ _ _ c.check-code.ensures
-      c.if-code-ne0.false c.phase_step.ensures.colour_value))
-      c.phase_step.ensures.changed_value).1;
-}
+returns c =
+    told _ _ _ _ _ _ (rw step_collecting (unless_done _ _ _ _ _ c.check-code.ensures
+    c.if-code-ne0.false c.phase_step.ensures.colour_value))
+    c.phase_step.ensures.changed_value

@@ -18,12 +18,9 @@ unfolding link edit_code
 returns-then-code-ne0 c =
     let code = first_skip _ 0 _ _ c.requires
     refl (rw c.place_code-target.ensures at
-    c.edit_code-code.ensures) in record {
-      colour_value = (told_none _ _ _ _ _ (rw (step_linking, c.refusal.ensures)
-          (unless_refused _ _ _ _ code c.if-code-ne0.true)) (rw c.refusal.ensures)).0;
-      changed_value = (told_none _ _ _ _ _ (rw (step_linking, c.refusal.ensures)
-          (unless_refused _ _ _ _ code c.if-code-ne0.true)) (rw c.refusal.ensures)).1;
-    }
+    c.edit_code-code.ensures) in
+    told_none _ _ _ _ _ (rw (step_linking, c.refusal.ensures)
+    (unless_refused _ _ _ _ code c.if-code-ne0.true)) (rw c.refusal.ensures)
 
 pub link_from-requires : goal.link_from-requires
 unfolding edit_code
@@ -40,11 +37,7 @@ returns c =
     let code = first_skip _ 0 _ _ c.requires refl (rw
     c.place_code-target.ensures
     at c.edit_code-code.ensures) in
-    let done = c.link_from.ensures in record {
-      colour_value = (told_none _ _ _ _ _ (rw step_linking (unless_done _ _ _ _ _ code
-          c.if-code-ne0.false
-          (done.by_index _))) done.changed_value).0;
-      changed_value = (told_none _ _ _ _ _ (rw step_linking (unless_done _ _ _ _ _ code
-          c.if-code-ne0.false
-          (done.by_index _))) done.changed_value).1;
-    }
+    let done = c.link_from.ensures in
+    told_none _ _ _ _ _ (rw step_linking (unless_done _ _ _ _ _ code
+    c.if-code-ne0.false
+    (done.by_index _))) done.changed_value

@@ -16,12 +16,9 @@ pub returns-then-code-ne0 : goal.returns-then-code-ne0
 unfolding look
 returns-then-code-ne0 c =
     let code = first_skip _ 0 _ _ c.requires refl
-    (first_last _ _ c.place_code-code.ensures) in record {
-      colour_value = (told_none _ _ _ _ _ (rw (step_looking, c.refusal.ensures)
-          (unless_refused _ _ _ _ code c.if-code-ne0.true)) (rw c.refusal.ensures)).0;
-      changed_value = (told_none _ _ _ _ _ (rw (step_looking, c.refusal.ensures)
-          (unless_refused _ _ _ _ code c.if-code-ne0.true)) (rw c.refusal.ensures)).1;
-    }
+    (first_last _ _ c.place_code-code.ensures) in
+    told_none _ _ _ _ _ (rw (step_looking, c.refusal.ensures)
+    (unless_refused _ _ _ _ code c.if-code-ne0.true)) (rw c.refusal.ensures)
 
 pub walk-found-requires : goal.walk-found-requires
 walk-found-requires c =
@@ -34,29 +31,18 @@ walk-found-requires c =
 pub returns-in-At : goal.returns-in-At
 unfolding look
 returns-in-At c =
-    let code = first_skip _ 0 _ _ c.requires refl (first_last _ _ c.place_code-code.ensures) in record {
-      colour_value = (told_none _ _ _ _ _ (rw step_looking (unless_done _ _ _ _ _ code
-          c.if-code-ne0.false
-          (arrives _ _ _ _ _ _ c.walk-found.ensures
-          c.in-At.is refl))) refl).0;
-      changed_value = (told_none _ _ _ _ _ (rw step_looking (unless_done _ _ _ _ _ code
-          c.if-code-ne0.false
-          (arrives _ _ _ _ _ _ c.walk-found.ensures
-          c.in-At.is refl))) refl).1;
-    }
+    let code = first_skip _ 0 _ _ c.requires refl (first_last _ _ c.place_code-code.ensures) in
+    told_none _ _ _ _ _ (rw step_looking (unless_done _ _ _ _ _ code
+    c.if-code-ne0.false
+    (arrives _ _ _ _ _ _ c.walk-found.ensures
+    c.in-At.is refl))) refl
 
 pub returns-in-Damaged : goal.returns-in-Damaged
 unfolding look
 returns-in-Damaged c =
-    let code = first_skip _ 0 _ _ c.requires refl (first_last _ _ c.place_code-code.ensures) in record {
-      colour_value = (told_none _ _ _ _ _ (rw (step_looking, c.refusal_with.ensures) (unless_done _ _ _ _ _
-          code c.if-code-ne0.false
-          (stops _ _ _ _ _ _ c.walk-found.ensures
-          c.in-Damaged.is)))
-          (rw c.refusal_with.ensures)).0;
-      changed_value = (told_none _ _ _ _ _ (rw (step_looking, c.refusal_with.ensures) (unless_done _ _ _ _ _
-          code c.if-code-ne0.false
-          (stops _ _ _ _ _ _ c.walk-found.ensures
-          c.in-Damaged.is)))
-          (rw c.refusal_with.ensures)).1;
-    }
+    let code = first_skip _ 0 _ _ c.requires refl (first_last _ _ c.place_code-code.ensures) in
+    told_none _ _ _ _ _ (rw (step_looking, c.refusal_with.ensures) (unless_done _ _ _ _ _
+    code c.if-code-ne0.false
+    (stops _ _ _ _ _ _ c.walk-found.ensures
+    c.in-Damaged.is)))
+    (rw c.refusal_with.ensures)

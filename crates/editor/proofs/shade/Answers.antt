@@ -9,12 +9,9 @@ use Rattle.editor.proofs.shade.Goals as goal
 pub returns-then-code-ne0 : goal.returns-then-code-ne0
 unfolding shade_owed
 returns-then-code-ne0 c =
-    let code = c.check-code.ensures in record {
-      colour_value = (told_none _ _ _ _ _ (rw (step_shading, c.refusal.ensures)
-          (unless_refused _ _ _ _ code c.if-code-ne0.true)) (rw c.refusal.ensures)).0;
-      changed_value = (told_none _ _ _ _ _ (rw (step_shading, c.refusal.ensures)
-          (unless_refused _ _ _ _ code c.if-code-ne0.true)) (rw c.refusal.ensures)).1;
-    }
+    let code = c.check-code.ensures in
+    told_none _ _ _ _ _ (rw (step_shading, c.refusal.ensures)
+    (unless_refused _ _ _ _ code c.if-code-ne0.true)) (rw c.refusal.ensures)
 
 pub shade_passed-requires : goal.shade_passed-requires
 shade_passed-requires c = sym c.if-code-ne0.false ∙ c.check-code.ensures

@@ -15,9 +15,6 @@ pay-requires c =
 pub returns : goal.returns
 unfolding shade_owed
 returns c =
-    let done = c.pay.ensures in record {
-      colour_value = (told _ _ _ _ _ _ (rw step_shading (unless_done _ _ _ 0 _
-          c.requires refl (done.by_index _))) done.changed_value).0;
-      changed_value = (told _ _ _ _ _ _ (rw step_shading (unless_done _ _ _ 0 _
-          c.requires refl (done.by_index _))) done.changed_value).1;
-    }
+    let done = c.pay.ensures in
+    told _ _ _ _ _ _ (rw step_shading (unless_done _ _ _ 0 _
+    c.requires refl (done.by_index _))) done.changed_value

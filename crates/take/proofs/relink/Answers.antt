@@ -6,41 +6,15 @@ use Rattle.take.proofs.relink.Goals as goal
 
 pub returns : goal.returns
 unfolding relink
-returns c = record {
-  x_value = ((
-    λ y. rw (
-      ← c.set_edge.ensures c.args.colour.now y,
-      ←
-          c.set_edge-2.ensures c.args.colour.now y,
-      ←
-          c.set_edge-3.ensures c.args.colour.now y,
-      ←
-          c.shade_node.ensures.colour_value,
-    ),
-    c.shade_node.ensures,
-  )).0;
-  colour_value = ((
-    λ y. rw (
-      ← c.set_edge.ensures c.args.colour.now y,
-      ←
-          c.set_edge-2.ensures c.args.colour.now y,
-      ←
-          c.set_edge-3.ensures c.args.colour.now y,
-      ←
-          c.shade_node.ensures.colour_value,
-    ),
-    c.shade_node.ensures,
-  )).1;
-  value = ((
-    λ y. rw (
-      ← c.set_edge.ensures c.args.colour.now y,
-      ←
-          c.set_edge-2.ensures c.args.colour.now y,
-      ←
-          c.set_edge-3.ensures c.args.colour.now y,
-      ←
-          c.shade_node.ensures.colour_value,
-    ),
-    c.shade_node.ensures,
-  )).2;
-}
+returns c =
+    record {
+      x_value =
+          λ y. rw (
+            ← c.set_edge.ensures c.args.colour.now y,
+            ← c.set_edge-2.ensures c.args.colour.now y,
+            ← c.set_edge-3.ensures c.args.colour.now y,
+            ← c.shade_node.ensures.colour_value,
+          );
+      colour_value = c.shade_node.ensures.colour_value;
+      value = c.shade_node.ensures.value;
+    }

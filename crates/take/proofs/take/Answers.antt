@@ -11,12 +11,9 @@ pub returns-then-code-ne0 : goal.returns-then-code-ne0
 unfolding take
 returns-then-code-ne0 c =
     let code = first_here _ _ _ _ c.check-code.ensures
-    c.if-code-ne0.true refl in record {
-      colour_value = (told_none _ _ _ _ _ (rw (step_taking, c.refusal.ensures)
-          (unless_refused _ _ _ _ code c.if-code-ne0.true)) (rw c.refusal.ensures)).0;
-      changed_value = (told_none _ _ _ _ _ (rw (step_taking, c.refusal.ensures)
-          (unless_refused _ _ _ _ code c.if-code-ne0.true)) (rw c.refusal.ensures)).1;
-    }
+    c.if-code-ne0.true refl in
+    told_none _ _ _ _ _ (rw (step_taking, c.refusal.ensures)
+    (unless_refused _ _ _ _ code c.if-code-ne0.true)) (rw c.refusal.ensures)
 
 pub take_passed-requires : goal.take_passed-requires
 take_passed-requires c = sym c.if-code-ne0.false ∙ c.check-code.ensures

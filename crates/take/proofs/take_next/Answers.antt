@@ -42,7 +42,7 @@ returns-then-g-eq0 c =
           (c.relink-changed.ensures.x_value c.args.x)
           (c.with_last.ensures ∙ ap (λ (y : Record). with_last y 1)
           c.less_free.ensures))));
-      changed_value = c.relink-changed.ensures.colour_value.1;
+      changed_value = c.relink-changed.ensures.value;
     }
 
 pub bounds-colour-next : goal.bounds-colour-next
@@ -69,7 +69,7 @@ pub overflow_add-changed : goal.overflow_add-changed
 overflow_add-changed c =
     let taken = c.relink-taken.ensures in
     let after = c.shade_node-after.ensures in
-    let a = at_most_one _ _ _ _ taken.colour_value.0 taken.colour_value.1 in
+    let a = at_most_one _ _ _ _ taken.colour_value taken.value in
     let b = at_most_one _ _ _ _ after.colour_value after.value in omega arith
 
 pub returns : goal.returns
@@ -85,5 +85,5 @@ returns c =
           (rw c.less_free-2.ensures (leaves_shaded _ c.args.x _ _ _ _ _ _ _
           (taken.x_value c.args.x) after.colour_value)))));
       changed_value = summed _ _ _ _ _ _ _ (omega (arith, c.requires)) (omega (arith, c.requires))
-          taken.colour_value.0 after.colour_value taken.colour_value.1 after.value;
+          taken.colour_value after.colour_value taken.value after.value;
     }

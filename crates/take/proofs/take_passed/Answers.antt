@@ -17,12 +17,9 @@ pub returns-then-code-ne0 : goal.returns-then-code-ne0
 unfolding take
 returns-then-code-ne0 c =
     let code = first_skip _ 0 _ _ c.requires refl
-    (c.edit_code-code.ensures ∙ no_target _ _ _) in record {
-      colour_value = (told_none _ _ _ _ _ (rw (step_taking, c.refusal.ensures)
-          (unless_refused _ _ _ _ code c.if-code-ne0.true)) (rw c.refusal.ensures)).0;
-      changed_value = (told_none _ _ _ _ _ (rw (step_taking, c.refusal.ensures)
-          (unless_refused _ _ _ _ code c.if-code-ne0.true)) (rw c.refusal.ensures)).1;
-    }
+    (c.edit_code-code.ensures ∙ no_target _ _ _) in
+    told_none _ _ _ _ _ (rw (step_taking, c.refusal.ensures)
+    (unless_refused _ _ _ _ code c.if-code-ne0.true)) (rw c.refusal.ensures)
 
 pub take_from-requires : goal.take_from-requires
 take_from-requires c =
@@ -36,13 +33,8 @@ unfolding take
 returns c =
     let code = first_skip _ 0 _ _ c.requires refl
     (c.edit_code-code.ensures ∙ no_target _ _ _) in
-    let done = c.take_from.ensures in record {
-      colour_value = (told _ _ _ _ _ _ (rw step_taking (unless_done _ _ _ _ _ code
-          c.if-code-ne0.false
-          done.colour_value))
-          done.changed_value).0;
-      changed_value = (told _ _ _ _ _ _ (rw step_taking (unless_done _ _ _ _ _ code
-          c.if-code-ne0.false
-          done.colour_value))
-          done.changed_value).1;
-    }
+    let done = c.take_from.ensures in
+    told _ _ _ _ _ _ (rw step_taking (unless_done _ _ _ _ _ code
+    c.if-code-ne0.false
+    done.colour_value))
+    done.changed_value
