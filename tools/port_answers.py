@@ -6,7 +6,7 @@ crate_folder, names_json = sys.argv[1:3]
 only = set(sys.argv[3:])
 crate = os.path.basename(os.path.abspath(crate_folder))
 names = json.load(open(names_json))
-H = lambda s: s.replace('_', '-')
+H = lambda s: re.sub('_lem$', '', s).replace('_', '-')
 TOK = re.compile(r"[^\s(){}\[\],;.]+(?:\.[^\s(){}\[\],;.]+)*")
 
 import glob
@@ -89,7 +89,7 @@ def projected(body, parts):
     e = body[at:].strip()
     if not e or e.split()[0].strip('(') in TACTICS: return None
     if ' ' not in e: return None
-    if e.split()[0] in ('rw', 'elim', 'absurd', 'told', 'told_none'): return None
+    if e.split()[0] in ('rw', 'elim', 'absurd', 'told', 'told_none', 'named', 'collected'): return None
     return body[:at] + (' ' if at else ' ') + 'record { ' + '; '.join('%s = (%s).%d' % (n, e, i) for i, n in enumerate(parts)) + ' }'
 
 

@@ -16,17 +16,20 @@ use Rattle.rules.specs.Changes.{differing, changes}
 use Rattle.rules.specs.declared.Step.{Step}
 use Rattle.rules.specs.declared.Place.{Place}
 use Rattle.rules.specs.declared.Made.{Made}
-use Rattle.rules.proofs.Changes.{told}
+use Rattle.rules.proofs.Changes.{Tells, told}
 use Rattle.rules.proofs.Laws.{step_taking, step_linking, step_shading, step_collecting}
 use Rattle.rules.proofs.Laws.{step_looking, unless_done, unless_refused}
 
 module _ (a : Step) (s : State) where
   -- a call that does b's step, which is a's, and counts the colours that it changes
-  pub named : (b : Step) (o : Outcome) (n : ℕ) → (o ≡ step b s) × (n ≡ changes b s)
-      → step b s ≡ step a s → (o ≡ step a s) × (n ≡ changes a s)
+  pub named : (b : Step) (o : Outcome) (n : ℕ) → Tells o n b s → step b s ≡ step a s
+      → Tells o n a s
   unfolding changes
-  named b o n h e =
-      (h.0 ∙ e, h.1 ∙ ap (λ (p : Outcome). differing s.colour p.state.colour) e)
+  named b o n h e = record {
+    colour_value = h.colour_value ∙ e;
+    changed_value =
+        h.changed_value ∙ ap (λ (p : Outcome). differing s.colour p.state.colour) e;
+  }
 
   is : (n : ℕ) (y o : Outcome) → a.kind ≡ n → y ≡ pick (eqb a.kind n) y o
   is n y o h = pick_yes _ _ _ _ (eq_yes a.kind n h) refl
@@ -84,7 +87,7 @@ module _ (a : Step) (s : State) where
 -- the step of the phase is the collector's where the record passes
 pub collected : (d : Made) (l r c : List ℕ) (s : State) → 0 ≡ check s
     → outcome d l r c ≡ phase_step s s.rec.phase → d.changed ≡ differing s.colour c
-    → (outcome d l r c ≡ step collecting s) × (d.changed ≡ changes collecting s)
+    → Tells (outcome d l r c) d.changed collecting s
 unfolding collect
 collected d l r c s p e n =
     told d l r c collecting s (rw step_collecting (unless_done _ _ _ 0 _ p refl e)) n

@@ -123,10 +123,14 @@ two_shaded c f g h k =
     rw (a, b, v, w))
     (λ q. let z = unchanged (shade_in c f) in omega arith)
 
+-- the two clauses of a call that does a step of the definition and counts the colours it changes
+abbrev pub Tells : Outcome → ℕ → Step → State → Type 0
+Tells o n a s = record { colour_value : o ≡ step a s; changed_value : n ≡ changes a s }
+
 -- what a call has to show that counts the colours it changed
 pub told : (d : Made) (l r c : List ℕ) (a : Step) (s : State) → outcome d l r c ≡ step a s
     → d.changed ≡ differing s.colour c
-    → record { colour_value : outcome d l r c ≡ step a s; changed_value : d.changed ≡ changes a s }
+    → Tells (outcome d l r c) d.changed a s
 unfolding changes
 told d l r c a s e h = record {
   colour_value = e;
@@ -136,10 +140,7 @@ told d l r c a s e h = record {
 -- and one that changed none
 pub told_none : (d : Made) (l r : List ℕ) (a : Step) (s : State)
     → outcome d l r s.colour ≡ step a s → d.changed ≡ 0
-    → record {
-      colour_value : outcome d l r s.colour ≡ step a s;
-      changed_value : d.changed ≡ changes a s;
-    }
+    → Tells (outcome d l r s.colour) d.changed a s
 told_none d l r a s e h = told d l r s.colour a s e (h ∙ unchanged s.colour)
 
 -- [Changes 3] a refused step changes none

@@ -1,0 +1,25 @@
+-- Each turn puts one byte, so the bytes that are left, put behind those that are there, make the
+-- same output as all of them at first.
+use Prim.Native.Nat.{◌-◌}
+use mathlib.Core.Path.{◌≡◌, refl, sym, ◌∙◌}
+use lib.ListN.{length, drop}
+use native.Mathlib.Omega.{arith}
+use Rattle.text.specs.Answers.{written, put, put_all}
+use Rattle.text.proofs.Outputs.{put_turn, put_done}
+use Rattle.text.proofs.put_part.Goals as goal
+
+pub loop-k-init : goal.loop-k-init
+loop-k-init c = (refl, refl)
+
+pub loop-k-preserved : goal.loop-k-preserved
+loop-k-preserved c = (
+  omega arith,
+  c.loop-k.invariant.1
+      ∙ rw (
+        put_turn _ _ _ c.loop-k-test.true,
+        c.put-at.ensures,
+      ),
+)
+
+pub returns : goal.returns
+returns c = sym (c.loop-k.invariant.1 ∙ sym (put_done _ _ _ c.loop-k-test.false))

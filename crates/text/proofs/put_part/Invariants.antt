@@ -1,0 +1,17 @@
+-- Each turn puts one byte, so the bytes that are left, put behind those that are there, make the
+-- same output as all of them at first.
+use Prim.Native.Nat.{◌-◌}
+use mathlib.Core.Path.{◌≡◌, refl, sym, ◌∙◌}
+use lib.ListN.{length, drop}
+use native.Mathlib.Omega.{arith}
+use Rattle.text.specs.Answers.{written, put, put_all}
+use Rattle.text.proofs.Outputs.{put_turn, put_done}
+use Rattle.text.proofs.put_part.Given as goal
+
+abbrev pub invariant-loop-k : goal.invariant-loop-k
+invariant-loop-k l =
+    (length l.out ≡ length l.initial.out) × (put_all (written l.initial.out l.used) l.word
+    ≡ put_all (written l.out l.at) (drop l.k l.word))
+
+abbrev pub decreases-loop-k : goal.decreases-loop-k
+decreases-loop-k l = length l.word - l.k

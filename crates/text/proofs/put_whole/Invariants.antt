@@ -1,0 +1,18 @@
+-- Each turn stores one byte where there is room for it, so the bytes that are left, put behind
+-- those that are there, make the same output as all of them at first.
+use Prim.Native.Nat.{◌+◌, ◌-◌, ◌≤◌}
+use mathlib.Core.Path.{◌≡◌, refl, sym, ◌∙◌, ap}
+use lib.ListN.{length, drop, length-set}
+use native.Mathlib.Omega.{arith}
+use native.Mathlib.Nat.{add-zero}
+use Rattle.text.specs.Answers.{written, put_all}
+use Rattle.text.proofs.Outputs.{put_next, put_done}
+use Rattle.text.proofs.put_whole.Given as goal
+
+abbrev pub invariant-loop-k : goal.invariant-loop-k
+invariant-loop-k l =
+    (length l.out ≡ length l.initial.out) × (l.k ≤ length l.word) × (put_all (written l.initial.out l.used) l.word
+    ≡ put_all (written l.out (l.used + l.k)) (drop l.k l.word))
+
+abbrev pub decreases-loop-k : goal.decreases-loop-k
+decreases-loop-k l = length l.word - l.k

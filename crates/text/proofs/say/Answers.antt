@@ -1,0 +1,21 @@
+-- The line is its pieces, put one behind the other, as the definition joins them.
+use borrow.Author.Rules.{rules}
+use Rattle.text.specs.Answers.{decimal, said, put, put_all}
+use Rattle.text.proofs.Outputs.{put_append}
+use Rattle.text.proofs.say.Goals as goal
+
+pub returns : goal.returns
+unfolding said put_all
+returns c =
+    rw (
+      put_append,
+      put_append,
+      put_append,
+      put_append,
+      ← c.put_all-a.ensures,
+      ←
+          c.decimal-b.ensures,
+      ← c.put_all-c.ensures,
+      ←
+          c.decimal-d.ensures,
+    ) c.put.ensures
