@@ -1,13 +1,16 @@
 // The schedule program: a block of standard input is read, answered and written to standard output,
 // until the input ends. What is printed is defined and proved in crates lines and transcript; here
 // is only what the system does. A call that is interrupted is made again, and a write that took a
-// part goes on behind it. A program has no exit status: one line on standard error says how the run
-// ended, unless all was answered.
+// part goes on behind it. The program's own status is 0: one line on standard error says how the
+// run ended, unless all was answered.
 #![tactic(auto)]
 
 ghost use Rattle.std.specs.Prelude.{◌≤◌, length};
 
 use session::Session;
+use std::io::{self, ErrorKind, Print, Read};
+use std::rt::{Stdin, Stdout};
+use std::thread;
 
 // A block of the input, and an output with room for its answers: a line has at least its newline,
 // an answer at most 22 bytes.
@@ -34,54 +37,54 @@ pub struct Led {
 }
 
 // Whether a call that failed is made again: it was interrupted, or the other side is not ready.
-fn again() -> bool {
-    let error = os::errno();
-    if error == libc::EAGAIN {
-        libc::sched_yield();
-        return true;
+fn again(error: io::Error) -> bool {
+    match error.kind() {
+        ErrorKind::WouldBlock => {
+            thread::yield_now();
+            true
+        }
+        ErrorKind::Interrupted => true,
+        _ => false,
     }
-    error == libc::EINTR
 }
 
-// The next bytes of the input: how many came, none at its end, or below 0 where it cannot be read.
-fn read(input: &mut [u8]) -> isize {
-    let mut tries = u64::MAX;
-    while 0 < tries {
-        let got = libc::read(libc::STDIN_FILENO, input);
-        if got >= 0 {
-            return got;
+// The next bytes of the input: how many came, none at its end, or `None` where it cannot be read.
+fn read(mut stdin: Stdin, input: &mut [u8]) -> Option<usize> {
+    for _ in 0..u64::MAX {
+        match stdin.read(input) {
+            Ok(got) => return Some(got),
+            Err(error) => {
+                if !again(error) {
+                    return None;
+                }
+            }
         }
-        if !again() {
-            return got;
-        }
-        tries -= 1;
     }
-    -1
+    None
 }
 
 // Writes a part of the bytes: how many were taken, 0 where they cannot be written.
-fn write_some(bytes: &[u8]) -> usize
+fn write_some(stdout: Stdout, bytes: &[u8]) -> usize
     ensures { result ≤ length bytes.now }
 {
-    let mut tries = u64::MAX;
-    while 0 < tries {
-        let put = libc::write(libc::STDOUT_FILENO, bytes);
-        if put >= 0 {
-            return io::count(put, bytes);
+    for _ in 0..u64::MAX {
+        match stdout.write_some(bytes) {
+            Ok(put) => return put,
+            Err(error) => {
+                if !again(error) {
+                    return 0;
+                }
+            }
         }
-        if !again() {
-            return 0;
-        }
-        tries -= 1;
     }
     0
 }
 
 // Writes all of the bytes, a part after the other.
-fn write(bytes: &[u8]) -> bool {
+fn write(stdout: Stdout, bytes: &[u8]) -> bool {
     let mut done = 0;
     while done < bytes.len() {
-        let put = write_some(&bytes[done..]);
+        let put = write_some(stdout, &bytes[done..]);
         if put == 0 {
             return false;
         }
@@ -91,13 +94,13 @@ fn write(bytes: &[u8]) -> bool {
 }
 
 // Writes what a block printed.
-fn write_used(out: &[u8], s: Session) -> bool {
+fn write_used(stdout: Stdout, out: &[u8], s: Session) -> bool {
     let run = s.run;
     let used = run.used;
     if out.len() < used {
         return false;
     }
-    write(&out[0..used])
+    write(stdout, &out[0..used])
 }
 
 // How the run stands after a block of n bytes, none at the end of the input, whose answers were
@@ -129,7 +132,7 @@ fn goes_on(standing: Standing) -> bool {
     }
 }
 
-// Answers what a read delivered, and writes the answers.
+// Answers what a read delivered, n bytes, and writes the answers.
 fn answer(
     left: &mut [u16],
     right: &mut [u16],
@@ -138,13 +141,13 @@ fn answer(
     rights: &mut [u32],
     line: &mut [u8],
     out: &mut [u8],
+    stdout: Stdout,
     s: Session,
     input: &[u8],
-    got: isize,
+    n: usize,
 ) -> Led {
-    let n = io::count(got, input);
     let s = transcript::turn(left, right, colour, lefts, rights, line, out, s, input, n);
-    let standing = after(write_used(out, s), s, n);
+    let standing = after(write_used(stdout, out, s), s, n);
     Led { s, standing }
 }
 
@@ -158,42 +161,40 @@ fn serve(
     line: &mut [u8],
     out: &mut [u8],
     input: &mut [u8],
+    stdin: Stdin,
+    stdout: Stdout,
 ) -> Standing {
     let mut s = transcript::start();
-    let mut blocks = u64::MAX;
-    while 0 < blocks {
-        let got = read(input);
-        if got < 0 {
-            return Standing::Unread;
-        }
-        let led = answer(left, right, colour, lefts, rights, line, out, s, input, got);
+    for _ in 0..u64::MAX {
+        let n = match read(stdin, input) {
+            Some(n) => n,
+            None => return Standing::Unread,
+        };
+        let led = answer(
+            left, right, colour, lefts, rights, line, out, stdout, s, input, n,
+        );
         let standing = led.standing;
         s = led.s;
         if !goes_on(standing) {
             return standing;
         }
-        blocks -= 1;
     }
     Standing::Unread
 }
 
-fn complain(text: &[u8]) {
-    io::write_all(libc::STDERR_FILENO, text);
-}
-
-// How the run ended, unless all was answered.
-fn tell(standing: Standing) {
+// What is said of how the run ended; nothing where all was answered.
+fn said(standing: Standing) -> &'static str {
     match standing {
-        Standing::Going => {}
-        Standing::Answered => {}
-        Standing::Refused => complain(b"jenturik: the first line is refused\n"),
-        Standing::Unloaded => complain(b"jenturik: the export is refused\n"),
-        Standing::Unread => complain(b"jenturik: the input cannot be read\n"),
-        Standing::Unwritten => complain(b"jenturik: the output cannot be written\n"),
+        Standing::Going => "",
+        Standing::Answered => "",
+        Standing::Refused => "jenturik: the first line is refused\n",
+        Standing::Unloaded => "jenturik: the export is refused\n",
+        Standing::Unread => "jenturik: the input cannot be read\n",
+        Standing::Unwritten => "jenturik: the output cannot be written\n",
     }
 }
 
-fn main() {
+fn main(rt: HostRuntime) -> io::Result<()> {
     let mut left = [0u16; rules::MOST_NODES];
     let mut right = [0u16; rules::MOST_NODES];
     let mut colour = [0u8; rules::MOST_NODES];
@@ -211,6 +212,8 @@ fn main() {
         &mut line,
         &mut out,
         &mut input,
+        rt.stdin(),
+        rt.stdout(),
     );
-    tell(standing);
+    rt.stderr().write_all(said(standing).as_bytes())
 }
