@@ -1,7 +1,7 @@
 -- Any step of a record that passes leaves one that passes again, but for the counts that `in_limits`
 -- looks at: by the cases of the definitions.
-use Prim.Native.Nat.{ℕ, ◌+◌, ◌<◌, ◌≤◌}
-use mathlib.Core.Bool.{Bool, true, false}
+use Prim.Native.Nat.{ℕ, ◌<◌}
+use mathlib.Core.Bool.{true}
 use mathlib.Core.Path.{◌≡◌, refl, sym, ◌∙◌}
 use mathlib.Core.List.{[], ◌∷◌, map}
 use mathlib.Core.Logic.{◌≢◌}
@@ -9,9 +9,7 @@ use native.Mathlib.Omega.{arith}
 use lib.ListN.{length}
 use borrow.Author.Tests.{eqb-true}
 use Rattle.base.proofs.Tests.{split, zeros, eq_no, lt_yes, not_is, every_skip, every_last}
-use Rattle.rules.specs.Table.{State, sides, Outcome, did, unless, left, FREE, edge, with_edge}
-use Rattle.rules.specs.Table.{shade}
-use Rattle.rules.specs.Records.{owing, paid, with_last, less_free}
+use Rattle.rules.specs.Table.{State, sides, Outcome, unless, left, FREE, edge, with_edge}
 use Rattle.rules.specs.Check.{owed_ok, last_ok, check}
 use Rattle.rules.specs.Places.{place_code, walk, arrive}
 use Rattle.rules.specs.Editor.{side_code, owed_code, look, depart, link_to, link, pay, shade_owed}
@@ -19,7 +17,6 @@ use Rattle.rules.specs.Editor.{relink, take_next, take_first, take}
 use Rattle.rules.specs.Collector.{collect}
 use Rattle.rules.specs.Steps.{step}
 use Rattle.rules.specs.declared.Answer.{Answer}
-use Rattle.rules.specs.declared.Answer.TheVariants.{Linked, Shaded, Taken}
 use Rattle.rules.specs.declared.Owed.{Owed}
 use Rattle.rules.specs.declared.Owed.TheVariants.{Nothing, Node}
 use Rattle.rules.specs.declared.Place.{Place}
@@ -29,7 +26,7 @@ use Rattle.rules.specs.declared.Walk.{Walk}
 use Rattle.rules.specs.declared.Walk.TheVariants.{At, Damaged}
 use Rattle.rules.proofs.Changes.{shaded_length}
 use Rattle.rules.proofs.Rows.{edge_lengths}
-use Rattle.rules.proofs.Steady.{count, Steady, Kept, Passed, passed, kept}
+use Rattle.rules.proofs.Steady.{count, Kept, Passed, passed, kept}
 use Rattle.rules.proofs.Walks.{Ends, ends, slot_below}
 
 owes_ok : (m n : ℕ) → n ≢ FREE → n < m → true ≡ owed_ok m (Node n)

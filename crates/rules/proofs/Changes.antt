@@ -9,9 +9,8 @@ use lib.ListN.{length, get_or, set, length-set}
 use lib.Seq.{get_or-set_same, get_or-set_other, set-get_or}
 use lib.Dec.{eqb}
 use borrow.Author.Tests.{eqb-true, eqb-false}
-use Rattle.base.specs.Choice.{pick}
 use Rattle.base.proofs.Tests.{split, pick_yes, pick_no, eq_yes, eq_no}
-use Rattle.rules.specs.Table.{State, Outcome, outcome, shade_in, white, gray}
+use Rattle.rules.specs.Table.{State, Outcome, outcome, shade_in}
 use Rattle.rules.specs.Steps.{step, code_of}
 use Rattle.rules.specs.Changes.{differs, differing, changes}
 use Rattle.rules.specs.declared.Step.{Step}

@@ -10,7 +10,7 @@ use native.Mathlib.Omega.{arith}
 use native.Mathlib.Nat.{mod-lt}
 use Rattle.base.specs.Choice.{every}
 use Rattle.base.proofs.Tests.{each, split, pick_yes, pick_no, eq_no, lt_yes, le_yes, or_skip}
-use Rattle.base.proofs.Tests.{every_skip, every_last, every_none}
+use Rattle.base.proofs.Tests.{every_skip, every_none}
 use Rattle.rules.specs.declared.Record.{Record}
 use Rattle.rules.specs.declared.Phase.{Phase}
 use Rattle.rules.specs.declared.Phase.TheVariants.{Append}

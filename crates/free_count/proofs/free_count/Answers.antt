@@ -2,7 +2,6 @@
 -- the record's count is.
 use Prim.Native.Nat.{ℕ}
 use mathlib.Core.Path.{refl, ap}
-use borrow.Author.Rules.{rules}
 use Rattle.base.proofs.Tests.{pick_yes, pick_no, code_yes, code_no}
 use Rattle.rules.specs.Table.{refused}
 use Rattle.rules.specs.FreeCount.{free_count}

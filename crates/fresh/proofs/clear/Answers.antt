@@ -1,11 +1,9 @@
 -- `clear` meets its contract: the edges from i up to n are 0, those from n on are as they were; at
 -- i = 0 that is the contract.
-use Prim.Native.Nat.{◌≤◌}
 use native.Mathlib.Omega.{arith}
-use mathlib.Core.Path.{◌≡◌, refl}
-use mathlib.Core.List.{◌++◌}
-use lib.ListN.{length, drop, length-set}
-use Rattle.rules.specs.Fresh.{tabulate, no_edge}
+use mathlib.Core.Path.{refl}
+use lib.ListN.{length-set}
+use Rattle.rules.specs.Fresh.{no_edge}
 use Rattle.fresh.proofs.Fills.{down, done}
 use Rattle.fresh.proofs.clear.Goals as goal
 

@@ -1,12 +1,10 @@
 -- `clear` meets its contract: the edges from i up to n are 0, those from n on are as they were; at
 -- i = 0 that is the contract.
 use Prim.Native.Nat.{◌≤◌}
-use native.Mathlib.Omega.{arith}
-use mathlib.Core.Path.{◌≡◌, refl}
+use mathlib.Core.Path.{◌≡◌}
 use mathlib.Core.List.{◌++◌}
-use lib.ListN.{length, drop, length-set}
+use lib.ListN.{length, drop}
 use Rattle.rules.specs.Fresh.{tabulate, no_edge}
-use Rattle.fresh.proofs.Fills.{down, done}
 use Rattle.fresh.proofs.clear.Given as goal
 
 abbrev pub invariant-loop-i : goal.invariant-loop-i

@@ -1,6 +1,5 @@
 -- `fill` meets its contract: from R + 2 on `link_free` leaves the definition's left edges; below,
 -- all are cleared but FREE's, which leads to the first free node. Nothing else is written but 0.
-use borrow.Author.Rules.{rules}
 use native.Mathlib.Omega.{arith}
 use mathlib.Core.Path.{◌∙◌}
 use lib.ListN.{length-set}

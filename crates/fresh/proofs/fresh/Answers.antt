@@ -1,7 +1,6 @@
 -- Where the sizes pass, M and R fit their widths and `fill` can be called; it leaves the
 -- definition's table, and the record and the answer are the definition's.
 use mathlib.Core.Path.{refl, ◌∙◌}
-use borrow.Author.Rules.{rules}
 use Rattle.base.proofs.Tests.{facts, each, not_no, not_yes, pick_yes, pick_no}
 use Rattle.rules.specs.Check.{size_ok}
 use Rattle.rules.specs.Fresh.{fresh}

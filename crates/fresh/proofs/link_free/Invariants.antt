@@ -2,13 +2,10 @@
 -- leads to 0, and each one below to the node above it, the one written before. At the end `node` is
 -- R + 2, FREE's edge; where nothing is free that is 0, and all edges are there.
 use Prim.Native.Nat.{◌+◌, ◌≤◌}
-use native.Mathlib.Omega.{arith}
 use mathlib.Core.Path.{◌≡◌}
 use mathlib.Core.List.{◌++◌}
-use lib.ListN.{length, drop, length-set}
+use lib.ListN.{length, drop}
 use Rattle.rules.specs.Fresh.{tabulate, fresh_left}
-use Rattle.fresh.proofs.Fills.{ahead, down}
-use Rattle.fresh.proofs.Lefts.{after_last, after, of_free}
 use Rattle.fresh.proofs.link_free.Given as goal
 
 abbrev pub invariant-loop-node : goal.invariant-loop-node

@@ -1,10 +1,8 @@
 -- `whiten` meets its contract: the colours from n on are white, and at n = 0 these are all.
-use Prim.Native.Nat.{◌≤◌}
 use native.Mathlib.Omega.{arith}
-use mathlib.Core.Path.{◌≡◌, refl}
-use mathlib.Core.List.{◌++◌}
-use lib.ListN.{length, drop, length-set}
-use Rattle.rules.specs.Fresh.{tabulate, all_white}
+use mathlib.Core.Path.{refl}
+use lib.ListN.{length-set}
+use Rattle.rules.specs.Fresh.{all_white}
 use Rattle.fresh.proofs.Fills.{ahead, down, done}
 use Rattle.fresh.proofs.whiten.Goals as goal
 

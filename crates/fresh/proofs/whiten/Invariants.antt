@@ -1,11 +1,9 @@
 -- `whiten` meets its contract: the colours from n on are white, and at n = 0 these are all.
 use Prim.Native.Nat.{◌≤◌}
-use native.Mathlib.Omega.{arith}
-use mathlib.Core.Path.{◌≡◌, refl}
+use mathlib.Core.Path.{◌≡◌}
 use mathlib.Core.List.{◌++◌}
-use lib.ListN.{length, drop, length-set}
+use lib.ListN.{length, drop}
 use Rattle.rules.specs.Fresh.{tabulate, all_white}
-use Rattle.fresh.proofs.Fills.{ahead, down, done}
 use Rattle.fresh.proofs.whiten.Given as goal
 
 abbrev pub invariant-loop-n : goal.invariant-loop-n

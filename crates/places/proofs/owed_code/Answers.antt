@@ -1,5 +1,4 @@
 -- Each arm is a case of the definition.
-use borrow.Author.Rules.{rules}
 use Rattle.rules.specs.Editor.{owed_code}
 use Rattle.places.proofs.owed_code.Goals as goal
 

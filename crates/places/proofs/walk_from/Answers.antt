@@ -1,14 +1,10 @@
 -- What is left of the walk from here answers what the whole walk answers: a turn keeps that by
 -- the law of one turn, and an edge that is not bad leads to a node of the table. Each turn
 -- leaves one less.
-use Prim.Native.Nat.{◌<◌}
-use mathlib.Core.Path.{◌≡◌, refl, sym, ◌∙◌}
-use mathlib.Core.List.{[], ◌∷◌}
+use mathlib.Core.Path.{refl, sym, ◌∙◌}
 use native.Mathlib.Omega.{arith}
 use borrow.Author.Rules.{rules}
 use Rattle.base.proofs.Tests.{tests, pick_yes, pick_no, eq_no}
-use Rattle.rules.specs.Table.{edge_of}
-use Rattle.rules.specs.Places.{walk_from}
 use Rattle.rules.proofs.Laws.{fine_edge}
 use Rattle.rules.proofs.Walks.{turn, arrived}
 use Rattle.places.proofs.walk_from.Goals as goal

@@ -3,7 +3,7 @@
 use mathlib.Core.Path.{◌∙◌}
 use borrow.Author.Rules.{rules}
 use Rattle.base.proofs.Tests.{tests, every_here, every_skip, every_last, not_yes, not_no}
-use Rattle.rules.specs.Check.{bound, record_ok}
+use Rattle.rules.specs.Check.{record_ok}
 use Rattle.rules.proofs.record_ok.Goals as goal
 
 pub returns-then-not-phase_ok : goal.returns-then-not-phase_ok

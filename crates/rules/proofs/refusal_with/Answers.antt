@@ -1,5 +1,4 @@
 -- The answer is the one that refuses, and the record is handed back untouched.
-use borrow.Author.Rules.{rules}
 use Rattle.rules.proofs.refusal_with.Goals as goal
 
 pub returns : goal.returns

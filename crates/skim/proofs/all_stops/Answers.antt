@@ -1,10 +1,7 @@
 -- `all_stops` meets its contract: before each turn `found` is the count over the first d colours. A
 -- block's count is added to it, and at the end that of the few which are left.
-use Prim.Native.Nat.{◌-◌, ◌≤◌}
-use mathlib.Core.Path.{◌≡◌, refl, sym, ◌∙◌}
-use lib.ListN.{length}
+use mathlib.Core.Path.{refl, sym, ◌∙◌}
 use native.Mathlib.Omega.{arith}
-use Rattle.skim.specs.Stops.{stops}
 use Rattle.skim.proofs.Counts.{stops_none, stops_both}
 use Rattle.skim.proofs.all_stops.Goals as goal
 

@@ -1,11 +1,9 @@
 -- `all_stops` meets its contract: before each turn `found` is the count over the first d colours. A
 -- block's count is added to it, and at the end that of the few which are left.
 use Prim.Native.Nat.{◌-◌, ◌≤◌}
-use mathlib.Core.Path.{◌≡◌, refl, sym, ◌∙◌}
+use mathlib.Core.Path.{◌≡◌}
 use lib.ListN.{length}
-use native.Mathlib.Omega.{arith}
 use Rattle.skim.specs.Stops.{stops}
-use Rattle.skim.proofs.Counts.{stops_none, stops_both}
 use Rattle.skim.proofs.all_stops.Given as goal
 
 abbrev pub invariant-loop-d : goal.invariant-loop-d

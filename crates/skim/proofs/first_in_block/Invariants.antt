@@ -2,9 +2,7 @@
 -- were read, stop no look. `stop_at` is j where the next one stops a look, and `least` keeps the
 -- smaller of the two.
 use Prim.Native.Nat.{◌-◌, ◌≤◌}
-use native.Mathlib.Omega.{arith}
 use Rattle.skim.specs.Stops.{Upto, block}
-use Rattle.skim.proofs.Counts.{upto_none, upto_more}
 use Rattle.skim.proofs.first_in_block.Given as goal
 
 abbrev pub invariant-loop-j : goal.invariant-loop-j

@@ -1,8 +1,7 @@
 -- `stops_among` meets its contract: before each turn `found` is the count over the first j colours,
 -- and so at most j, which a byte holds. `stop` adds 1 or 0, as the definition does for one colour
 -- more.
-use Prim.Native.Nat.{◌-◌, ◌≤◌}
-use mathlib.Core.Path.{◌≡◌, sym, ap, ◌∙◌}
+use mathlib.Core.Path.{sym, ap, ◌∙◌}
 use native.Mathlib.Omega.{arith}
 use Rattle.skim.specs.Stops.{stops}
 use Rattle.skim.proofs.Counts.{stops_none, stops_more}

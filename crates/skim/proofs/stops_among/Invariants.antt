@@ -2,10 +2,8 @@
 -- and so at most j, which a byte holds. `stop` adds 1 or 0, as the definition does for one colour
 -- more.
 use Prim.Native.Nat.{◌-◌, ◌≤◌}
-use mathlib.Core.Path.{◌≡◌, sym, ap, ◌∙◌}
-use native.Mathlib.Omega.{arith}
+use mathlib.Core.Path.{◌≡◌}
 use Rattle.skim.specs.Stops.{stops}
-use Rattle.skim.proofs.Counts.{stops_none, stops_more}
 use Rattle.skim.proofs.stops_among.Given as goal
 
 abbrev pub invariant-loop-j : goal.invariant-loop-j

@@ -2,10 +2,8 @@
 -- look. A block without a stop leaves this so, and a block with one is read again up to its first.
 -- The last block may begin inside those that are known: two runs that overlap, each without a stop,
 -- are one.
-use Prim.Native.Nat.{◌-◌, ◌≤◌}
-use mathlib.Core.Path.{◌≡◌, sym}
+use mathlib.Core.Path.{sym}
 use native.Mathlib.Omega.{arith}
-use Rattle.skim.specs.Stops.{stops}
 use Rattle.skim.proofs.Counts.{stops_none, stops_joined, stops_over}
 use Rattle.skim.proofs.until_stop_by_blocks.Goals as goal
 

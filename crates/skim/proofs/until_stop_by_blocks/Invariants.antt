@@ -3,10 +3,8 @@
 -- The last block may begin inside those that are known: two runs that overlap, each without a stop,
 -- are one.
 use Prim.Native.Nat.{◌-◌, ◌≤◌}
-use mathlib.Core.Path.{◌≡◌, sym}
-use native.Mathlib.Omega.{arith}
+use mathlib.Core.Path.{◌≡◌}
 use Rattle.skim.specs.Stops.{stops}
-use Rattle.skim.proofs.Counts.{stops_none, stops_joined, stops_over}
 use Rattle.skim.proofs.until_stop_by_blocks.Given as goal
 
 abbrev pub invariant-loop-d : goal.invariant-loop-d

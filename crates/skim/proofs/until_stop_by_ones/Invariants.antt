@@ -1,12 +1,8 @@
 -- `until_stop_by_ones` meets its contract: before each turn none of the first d colours stops a
 -- look. The loop ends at the first that does, or at `most`.
 use Prim.Native.Nat.{◌-◌, ◌≤◌}
-use mathlib.Core.Path.{◌≡◌, sym}
-use native.Mathlib.Omega.{arith}
-use borrow.Author.Rules.{rules}
-use Rattle.base.proofs.Tests.{tests}
+use mathlib.Core.Path.{◌≡◌}
 use Rattle.skim.specs.Stops.{stops}
-use Rattle.skim.proofs.Counts.{stops_none, stops_more}
 use Rattle.skim.proofs.until_stop_by_ones.Given as goal
 
 abbrev pub invariant-loop-d : goal.invariant-loop-d

@@ -2,7 +2,6 @@
 use Prim.Native.Nat.{ℕ, ◌-◌}
 use mathlib.Core.Path.{◌≡◌, ap}
 use native.Mathlib.Omega.{arith}
-use borrow.Author.Rules.{rules}
 use Rattle.rules.specs.Records.{with_free}
 use Rattle.rules.specs.declared.Record.{Record}
 use Rattle.rules.proofs.Record.less_free.Goals as goal

@@ -1,5 +1,4 @@
 -- The count is stored, and `next` gives the node from which the scan goes on.
-use borrow.Author.Rules.{rules}
 use Rattle.rules.proofs.Record.rescan.Goals as goal
 
 pub returns : goal.returns
