@@ -5,7 +5,7 @@ use mathlib.Core.List.{List}
 use lib.ListN.{length}
 use Rattle.rules.specs.Table.{shade_in}
 use Rattle.rules.specs.Changes.{differing}
-use Rattle.rules.proofs.Changes.{shaded_most, shaded_length, two_shaded}
+use Rattle.rules.proofs.Changes.{shaded_most, two_shaded}
 
 pub at_most_one : (c c₁ : List ℕ) (f a : ℕ) → c₁ ≡ shade_in c f → a ≡ differing c c₁ → a ≤ 1
 at_most_one c c₁ f a p q = rw (q, p) (shaded_most c f)

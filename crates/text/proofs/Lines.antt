@@ -12,7 +12,7 @@ use lib.Seq.{drop-cons}
 use lib.Dec.{ltb, eqb}
 use Rattle.base.specs.Choice.{pick}
 use Rattle.base.proofs.Tests.{split, facts, each}
-use Rattle.text.specs.Grammar.{byte_at, lost, after, is_digit, digits_at, number, side_at, side}
+use Rattle.text.specs.Grammar.{byte_at, lost, after, is_digit, digits_at, number, side_at}
 use Rattle.text.specs.Grammar.{letters_at, turns, many_words}
 use Rattle.text.specs.declared.Side.{Side}
 

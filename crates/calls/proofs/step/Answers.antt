@@ -1,6 +1,5 @@
 -- A code refuses any step. Else `step_passed` makes it.
 use mathlib.Core.Path.{sym, ◌∙◌}
-use borrow.Author.Rules.{rules}
 use Rattle.rules.proofs.Changes.{told_none}
 use Rattle.calls.proofs.Named.{none_passes}
 use Rattle.calls.proofs.step.Goals as goal

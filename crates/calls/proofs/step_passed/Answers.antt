@@ -1,6 +1,5 @@
 -- For each kind, the call that is made has the definition's step of that kind by its own
 -- contract; a kind above 4 is refused as the definition says.
-use borrow.Author.Rules.{rules}
 use Rattle.calls.proofs.Named.{kind_take, kind_link, kind_shade, kind_collect, kind_look}
 use Rattle.rules.proofs.Changes.{told_none}
 use Rattle.rules.proofs.Checked.{good, inside}

@@ -1,7 +1,6 @@
 -- Where codes 1 and 2 are not given, the record and the lengths are good and the phase's
 -- position is in range, which is all that `phase_step` asks.
 use mathlib.Core.Path.{sym, ◌∙◌}
-use borrow.Author.Rules.{rules}
 use Rattle.rules.specs.Collector.{collect}
 use Rattle.rules.proofs.Changes.{told, told_none}
 use Rattle.rules.proofs.Checked.{good, inside}

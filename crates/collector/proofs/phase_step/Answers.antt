@@ -2,7 +2,6 @@
 -- follows from the record's test and the phase's numbers.
 use mathlib.Core.Path.{refl, ◌∙◌}
 use native.Mathlib.Omega.{arith}
-use borrow.Author.Rules.{rules}
 use Rattle.rules.specs.Collector.{phase_step}
 use Rattle.rules.proofs.Changes.{unchanged}
 use Rattle.collector.proofs.phase_step.Goals as goal

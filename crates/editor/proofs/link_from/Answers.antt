@@ -1,7 +1,6 @@
 -- `depart` says where the source is, or why there is none: the two answers are the two cases of the
 -- definition. A source that is found lies in the table, which is what `link_to` asks.
 use native.Mathlib.Omega.{arith}
-use borrow.Author.Rules.{rules}
 use Rattle.places.proofs.Arrivals.{departs, absent, found_below}
 use Rattle.editor.proofs.link_from.Goals as goal
 

@@ -3,7 +3,6 @@
 -- side are in range, which is all that `link_from` asks.
 use mathlib.Core.Path.{refl, sym, ◌∙◌}
 use native.Mathlib.Omega.{arith}
-use borrow.Author.Rules.{rules}
 use Rattle.base.proofs.Tests.{zeros, first_skip}
 use Rattle.rules.specs.Editor.{link}
 use Rattle.rules.proofs.Changes.{told_none}

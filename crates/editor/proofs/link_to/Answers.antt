@@ -1,7 +1,6 @@
 -- The walk's contract says where the target is. It lies in the table; the edge written and the
 -- record that owes are the definition's.
 use mathlib.Core.Path.{refl}
-use borrow.Author.Rules.{rules}
 use Rattle.rules.specs.Editor.{link_to}
 use Rattle.places.proofs.Arrivals.{arrives, stops, leaves}
 use Rattle.editor.proofs.link_to.Goals as goal

@@ -2,7 +2,6 @@
 -- what it answers is what the definition takes apart.
 use mathlib.Core.Path.{refl, sym, ◌∙◌}
 use native.Mathlib.Omega.{arith}
-use borrow.Author.Rules.{rules}
 use Rattle.base.proofs.Tests.{zeros, first_skip, first_last}
 use Rattle.rules.specs.Editor.{look}
 use Rattle.rules.proofs.Changes.{told_none}

@@ -1,6 +1,5 @@
 -- Codes 1 and 2 come first, as in the definition; where neither is given, the rest is one call.
 use mathlib.Core.Path.{sym, ◌∙◌}
-use borrow.Author.Rules.{rules}
 use Rattle.rules.specs.Editor.{shade_owed}
 use Rattle.rules.proofs.Changes.{told_none}
 use Rattle.rules.proofs.Laws.{unless_refused, step_shading}

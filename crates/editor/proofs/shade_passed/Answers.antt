@@ -1,7 +1,6 @@
 -- The node owed lies in the table, which is all that `pay` asks.
 use mathlib.Core.Path.{refl}
-use borrow.Author.Rules.{rules}
-use Rattle.rules.specs.Editor.{pay, shade_owed}
+use Rattle.rules.specs.Editor.{shade_owed}
 use Rattle.rules.proofs.Changes.{told}
 use Rattle.rules.proofs.Checked.{good, owable}
 use Rattle.rules.proofs.Laws.{unless_done, step_shading}

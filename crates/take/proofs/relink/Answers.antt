@@ -1,6 +1,5 @@
 -- The three edges and the colour are written in the definition's order; each write is known by
 -- its contract, for any record beside the table.
-use borrow.Author.Rules.{rules}
 use Rattle.rules.specs.Editor.{relink}
 use Rattle.take.proofs.relink.Goals as goal
 

@@ -1,6 +1,5 @@
 -- Codes 1 and 2 come first, as in the definition; where neither is given, the rest is one call.
 use mathlib.Core.Path.{refl, sym, ◌∙◌}
-use borrow.Author.Rules.{rules}
 use Rattle.base.proofs.Tests.{first_here}
 use Rattle.rules.specs.Editor.{take}
 use Rattle.rules.proofs.Changes.{told_none}

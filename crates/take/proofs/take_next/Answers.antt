@@ -4,7 +4,7 @@ use mathlib.Core.Path.{refl, sym, ap, ◌∙◌}
 use native.Mathlib.Omega.{arith}
 use borrow.Author.Rules.{rules}
 use Rattle.base.proofs.Tests.{tests, pick_yes, pick_no, eq_yes, lt_no, eq_no}
-use Rattle.rules.specs.Editor.{relink, take_next}
+use Rattle.rules.specs.Editor.{take_next}
 use Rattle.rules.specs.Records.{with_last}
 use Rattle.rules.specs.declared.Record.{Record}
 use Rattle.rules.proofs.Changes.{unchanged}

@@ -3,7 +3,6 @@
 -- good and the slot and the side are in range, which is all that `take_from` asks.
 use mathlib.Core.Path.{refl, sym, ◌∙◌}
 use native.Mathlib.Omega.{arith}
-use borrow.Author.Rules.{rules}
 use Rattle.base.proofs.Tests.{zeros, first_skip}
 use Rattle.rules.specs.Editor.{take}
 use Rattle.rules.proofs.Changes.{told, told_none}

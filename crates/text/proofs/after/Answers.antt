@@ -1,11 +1,8 @@
 -- Each turn compares one byte of the word, so what is left of the word at the next position says
 -- the same as the whole at the first; a byte that differs loses it.
-use Prim.Native.Nat.{◌-◌}
-use mathlib.Core.Path.{◌≡◌, refl, sym, ◌∙◌}
-use lib.ListN.{length, drop}
+use mathlib.Core.Path.{refl, sym, ◌∙◌}
 use native.Mathlib.Omega.{arith}
 use Rattle.base.proofs.Tests.{pick_yes, pick_no, eq_yes, eq_no}
-use Rattle.text.specs.Grammar.{after}
 use Rattle.text.proofs.Lines.{inside, word_turn, word_done}
 use Rattle.text.proofs.after.Goals as goal
 

@@ -1,7 +1,6 @@
 -- The position is tested against the line's length: inside it the byte is the list's, and past it
 -- the definition answers 256 as the code does.
 use native.Mathlib.Omega.{arith}
-use borrow.Author.Rules.{rules}
 use Rattle.text.proofs.Lines.{there, past}
 use Rattle.text.proofs.byte_at.Goals as goal
 

@@ -1,6 +1,5 @@
 -- The form is a word and a number behind it, as in the definition.
-use borrow.Author.Rules.{rules}
-use Rattle.text.specs.Grammar.{after, collect_line}
+use Rattle.text.specs.Grammar.{collect_line}
 use Rattle.text.proofs.collect_line.Goals as goal
 
 pub returns : goal.returns

@@ -1,6 +1,5 @@
 -- The digits are put from the highest on, each by its contract, the last one always.
-use borrow.Author.Rules.{rules}
-use Rattle.text.specs.Answers.{decimal, put, put_all}
+use Rattle.text.specs.Answers.{decimal, put_all}
 use Rattle.text.proofs.Outputs.{put_append}
 use Rattle.text.proofs.decimal.Goals as goal
 

@@ -1,7 +1,6 @@
 -- A digit is put unless it is a leading zero, by the definition's test.
-use borrow.Author.Rules.{rules}
 use Rattle.base.specs.Choice.{pick}
-use Rattle.text.specs.Answers.{digit_of, put, put_all}
+use Rattle.text.specs.Answers.{digit_of, put_all}
 use borrow.Author.Tests.{lt-leb, le-leb}
 use Rattle.text.proofs.Outputs.{put_none}
 use Rattle.text.proofs.digit.Goals as goal

@@ -1,11 +1,8 @@
 -- Each turn reads one digit as the definition does, with one fewer to come; the number stays below
 -- a power of ten, so it fits.
 use Prim.Native.Nat.{◌-◌, ◌≤◌, ◌<◌, ◌^◌}
-use mathlib.Core.Path.{◌≡◌, refl, sym, ◌∙◌}
-use native.Mathlib.Omega.{arith}
-use Rattle.base.proofs.Tests.{pick_yes, pick_no, not_no, not_yes}
+use mathlib.Core.Path.{◌≡◌}
 use Rattle.text.specs.Grammar.{digits_at}
-use Rattle.text.proofs.Lines.{inside, digit_is, small, longer, digits_turn, digits_done}
 use Rattle.text.proofs.digits_at.Given as goal
 
 abbrev pub invariant-loop-more : goal.invariant-loop-more

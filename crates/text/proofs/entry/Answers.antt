@@ -3,7 +3,6 @@ use mathlib.Core.Path.{refl}
 use Rattle.base.proofs.Tests.{pick_yes, pick_no, every_here, every_skip, every_last}
 use Rattle.base.proofs.Tests.{le_yes, le_no, eq_yes, eq_no}
 use Rattle.text.specs.Grammar.{entry}
-use borrow.Author.Rules.{rules}
 use Rattle.text.proofs.entry.Goals as goal
 
 pub returns-then-end-gt-LONGEST : goal.returns-then-end-gt-LONGEST

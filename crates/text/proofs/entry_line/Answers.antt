@@ -1,6 +1,5 @@
 -- `entry_line` meets its contract: the same pieces in the same order.
 use Rattle.text.specs.Grammar.{entry_line}
-use borrow.Author.Rules.{rules}
 use Rattle.text.proofs.entry_line.Goals as goal
 
 pub returns : goal.returns

@@ -1,6 +1,5 @@
 -- The form is two words, each with its number behind it, as in the definition.
-use borrow.Author.Rules.{rules}
-use Rattle.text.specs.Grammar.{after, first_line}
+use Rattle.text.specs.Grammar.{first_line}
 use Rattle.text.proofs.first_line.Goals as goal
 
 pub returns : goal.returns

@@ -1,6 +1,5 @@
 -- `is_export` meets its contract: it is the definition, with the position that `after` finds.
 use Rattle.text.specs.Grammar.{is_export}
-use borrow.Author.Rules.{rules}
 use Rattle.text.proofs.is_export.Goals as goal
 
 pub returns : goal.returns

@@ -1,11 +1,8 @@
 -- Each turn reads one letter as the definition does and keeps word and bit below 4,096, so nothing
 -- overflows; the first byte that is no letter ends it.
 use Prim.Native.Nat.{◌+◌, ◌≤◌, ◌<◌}
-use mathlib.Core.Path.{◌≡◌, refl, sym, ◌∙◌}
-use native.Mathlib.Omega.{arith}
-use Rattle.base.proofs.Tests.{pick_yes, pick_no, eq_yes, eq_no}
+use mathlib.Core.Path.{◌≡◌}
 use Rattle.text.specs.Grammar.{letters_at, longest, many_words}
-use Rattle.text.proofs.Lines.{part, letters_turn, letters_done, side_small}
 use Rattle.text.proofs.letters_at.Given as goal
 
 abbrev pub invariant-loop-more : goal.invariant-loop-more

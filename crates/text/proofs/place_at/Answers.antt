@@ -1,7 +1,6 @@
 -- The pieces are read one behind the other, each where the one before ended, as the definition puts
 -- them together.
-use borrow.Author.Rules.{rules}
-use Rattle.text.specs.Grammar.{after, place_at}
+use Rattle.text.specs.Grammar.{place_at}
 use Rattle.text.proofs.place_at.Goals as goal
 
 pub returns : goal.returns

@@ -1,10 +1,7 @@
 -- Each turn puts one byte, so the bytes that are left, put behind those that are there, make the
 -- same output as all of them at first.
-use Prim.Native.Nat.{◌-◌}
-use mathlib.Core.Path.{◌≡◌, refl, sym, ◌∙◌}
-use lib.ListN.{length, drop}
+use mathlib.Core.Path.{refl, sym, ◌∙◌}
 use native.Mathlib.Omega.{arith}
-use Rattle.text.specs.Answers.{written, put, put_all}
 use Rattle.text.proofs.Outputs.{put_turn, put_done}
 use Rattle.text.proofs.put_part.Goals as goal
 

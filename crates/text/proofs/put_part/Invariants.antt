@@ -1,11 +1,9 @@
 -- Each turn puts one byte, so the bytes that are left, put behind those that are there, make the
 -- same output as all of them at first.
 use Prim.Native.Nat.{◌-◌}
-use mathlib.Core.Path.{◌≡◌, refl, sym, ◌∙◌}
+use mathlib.Core.Path.{◌≡◌}
 use lib.ListN.{length, drop}
-use native.Mathlib.Omega.{arith}
-use Rattle.text.specs.Answers.{written, put, put_all}
-use Rattle.text.proofs.Outputs.{put_turn, put_done}
+use Rattle.text.specs.Answers.{written, put_all}
 use Rattle.text.proofs.put_part.Given as goal
 
 abbrev pub invariant-loop-k : goal.invariant-loop-k

@@ -1,11 +1,10 @@
 -- Each turn stores one byte where there is room for it, so the bytes that are left, put behind
 -- those that are there, make the same output as all of them at first.
-use Prim.Native.Nat.{◌+◌, ◌-◌, ◌≤◌}
-use mathlib.Core.Path.{◌≡◌, refl, sym, ◌∙◌, ap}
-use lib.ListN.{length, drop, length-set}
+use mathlib.Core.Path.{refl, sym, ◌∙◌, ap}
+use lib.ListN.{length-set}
 use native.Mathlib.Omega.{arith}
 use native.Mathlib.Nat.{add-zero}
-use Rattle.text.specs.Answers.{written, put_all}
+use Rattle.text.specs.Answers.{written}
 use Rattle.text.proofs.Outputs.{put_next, put_done}
 use Rattle.text.proofs.put_whole.Goals as goal
 

@@ -1,12 +1,9 @@
 -- Each turn stores one byte where there is room for it, so the bytes that are left, put behind
 -- those that are there, make the same output as all of them at first.
 use Prim.Native.Nat.{◌+◌, ◌-◌, ◌≤◌}
-use mathlib.Core.Path.{◌≡◌, refl, sym, ◌∙◌, ap}
-use lib.ListN.{length, drop, length-set}
-use native.Mathlib.Omega.{arith}
-use native.Mathlib.Nat.{add-zero}
+use mathlib.Core.Path.{◌≡◌}
+use lib.ListN.{length, drop}
 use Rattle.text.specs.Answers.{written, put_all}
-use Rattle.text.proofs.Outputs.{put_next, put_done}
 use Rattle.text.proofs.put_whole.Given as goal
 
 abbrev pub invariant-loop-k : goal.invariant-loop-k

@@ -3,7 +3,7 @@
 use mathlib.Core.Path.{refl}
 use borrow.Author.Rules.{rules}
 use Rattle.base.proofs.Tests.{tests, pick_yes, pick_no, eq_yes, eq_no, lt_no}
-use Rattle.text.specs.Grammar.{counted, read}
+use Rattle.text.specs.Grammar.{read}
 use Rattle.text.proofs.read.Goals as goal
 
 pub returns-then-end-gt-LONGEST : goal.returns-then-end-gt-LONGEST

@@ -1,6 +1,5 @@
 -- The line is its pieces, put one behind the other, as the definition joins them.
-use borrow.Author.Rules.{rules}
-use Rattle.text.specs.Answers.{decimal, said, put, put_all}
+use Rattle.text.specs.Answers.{said, put_all}
 use Rattle.text.proofs.Outputs.{put_append}
 use Rattle.text.proofs.say.Goals as goal
 

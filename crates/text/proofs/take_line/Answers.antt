@@ -1,7 +1,6 @@
 -- The form is a straight line of pieces, in code and in definition; so it is the pieces' contracts
 -- in a row.
-use borrow.Author.Rules.{rules}
-use Rattle.text.specs.Grammar.{after, take_line}
+use Rattle.text.specs.Grammar.{take_line}
 use Rattle.text.proofs.take_line.Goals as goal
 
 pub returns : goal.returns
