@@ -17,7 +17,7 @@ use Rattle.rules.specs.declared.Made.{Made}
 use Rattle.rules.specs.declared.Record.{Record}
 use Rattle.rules.specs.declared.Step.{Step}
 use Rattle.rules.proofs.AnyStep.{step_kept}
-use Rattle.rules.proofs.Changes.{told_none}
+use Rattle.rules.proofs.Changes.{Tells, told_none}
 use Rattle.rules.proofs.Steady.{count, Kept, passed, passes_again, now_spoilt}
 use Rattle.calls.proofs.Named.{none_passes}
 use Rattle.schedule.specs.Stands.{Settled}
@@ -34,7 +34,7 @@ past n b c h = sym (c ∙ ap (λ (z : Bool). pick z 0 2) (sym h))
 -- a step past a limit, as it is handed back
 pub spoilt : (a : Step) (l r c : List ℕ) (x : Record) (d : Made) → d ≡ refusal 2 0 x
     → 2 ≡ check (state l r c x)
-    → (outcome d l r c ≡ step a (state l r c x)) × (d.changed ≡ changes a (state l r c x))
+    → Tells (outcome d l r c) d.changed a (state l r c x)
 spoilt a l r c x d e p =
     told_none d l r a (state l r c x)
     (rw e (none_passes a (state l r c x) 2 p (λ z. omega arith)))
