@@ -3,15 +3,13 @@
 use Prim.Native.Nat.{ℕ, ◌+◌, ◌≤◌}
 use mathlib.Core.Path.{◌≡◌, refl, sym, ap, subst, ◌∙◌}
 use mathlib.Core.Bool.{Bool, true, false}
-use mathlib.Core.List.{List, [], ◌∷◌, map}
+use mathlib.Core.List.{List, [], ◌∷◌}
 use native.Mathlib.Omega.{arith}
-use lib.ListN.{length}
 use Rattle.base.specs.Choice.{pick}
 use Rattle.base.proofs.Tests.{each, facts}
 use Rattle.rules.specs.Table.{State, Outcome, state, outcome, refusal, most_nodes, most_slots}
 use Rattle.rules.specs.Check.{bound, in_limits, size_ok, record_ok, check_of, check}
 use Rattle.rules.specs.Steps.{step}
-use Rattle.rules.specs.Changes.{changes}
 use Rattle.rules.specs.declared.Answer.TheVariants.{Named}
 use Rattle.rules.specs.declared.Made.{Made}
 use Rattle.rules.specs.declared.Record.{Record}

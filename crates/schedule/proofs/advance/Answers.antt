@@ -1,8 +1,7 @@
 -- Where a count is past its limit, code 2 refuses any step. Else the record passes, and the step is
 -- made: by `any_phase` if it is the collector's, and otherwise by `step_passed`.
-use mathlib.Core.Path.{◌≡◌, sym, ap, ◌∙◌}
+use mathlib.Core.Path.{sym, ap, ◌∙◌}
 use native.Mathlib.Omega.{arith}
-use borrow.Author.Rules.{rules}
 use Rattle.rules.specs.Check.{in_limits}
 use Rattle.rules.specs.Steps.{collecting}
 use Rattle.rules.specs.declared.Made.{Made}
@@ -46,7 +45,8 @@ any_phase-requires c =
 pub returns-then-kind-eq3 : goal.returns-then-kind-eq3
 returns-then-kind-eq3 c =
     let done = c.any_phase.ensures in
-    let told = named _ _ collecting _ _ record { colour_value = done.1.0; changed_value = done.1.1.0 }
+    let told =
+    named _ _ collecting _ _ record { colour_value = done.1.0; changed_value = done.1.1.0 }
     (kind_collect _ _ c.if-kind-eq3.true) in
     (done.0, (told.colour_value, (told.changed_value, done.1.1.1)))
 
@@ -61,11 +61,7 @@ step_passed-requires c =
 pub after-requires-2 : goal.after-requires-2
 after-requires-2 c =
     let few = at_most_two _ _ _ c.step_passed.ensures.changed_value in
-    omega (
-      arith,
-      few,
-      c.requires,
-    )
+    omega (arith, few, c.requires)
 
 pub returns : goal.returns
 returns c = (

@@ -1,7 +1,6 @@
 -- The phase is the record's, so its step is the collector's; it is handed to `after`.
 use mathlib.Core.Path.{ap, ◌∙◌}
 use native.Mathlib.Omega.{arith}
-use borrow.Author.Rules.{rules}
 use Rattle.rules.specs.Collector.{phase_step}
 use Rattle.rules.proofs.Checked.{good, inside}
 use Rattle.calls.proofs.Named.{collected}
