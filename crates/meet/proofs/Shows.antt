@@ -110,7 +110,8 @@ shown_none m marks order h z = record {
   end = refl;
 }
 
-pub slot_other : (marks : List ℕ) (n j : ℕ) → n + 1 ≤ j → get_or (set marks n 1) j 0 ≡ get_or marks j 0
+pub slot_other : (marks : List ℕ) (n j : ℕ) → n + 1 ≤ j
+    → get_or (set marks n 1) j 0 ≡ get_or marks j 0
 slot_other marks n j h = get_or-set_other marks n j 1 0 (omega arith)
 
 pub shown_slot : {m : ℕ} {marks order : List ℕ} {n : ℕ}

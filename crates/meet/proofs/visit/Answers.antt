@@ -2,7 +2,6 @@
 -- says whether it has a number; what is written behind the queue's end is no part of it.
 use mathlib.Core.Path.{refl, sym, ◌∙◌}
 use native.Mathlib.Omega.{arith}
-use borrow.Author.Rules.{rules}
 use Rattle.base.proofs.Tests.{pick_yes, pick_no}
 use Rattle.rules.specs.Meet.{num_of}
 use Rattle.reach.proofs.Counts.{one_le}
@@ -12,44 +11,18 @@ use Rattle.meet.proofs.visit.Goals as goal
 
 pub returns-then-e-eq0 : goal.returns-then-e-eq0
 returns-then-e-eq0 c = record {
-  tail_bound = ((
-    omega arith,
-    (
-      pick_no _ _ _ _ (node_good _ _ (omega arith) (omega arith)) refl,
-      λ s v. rw (nil_visit _ _ s c.if-e-eq0.true) v,
-    ),
-  )).0;
-  hurt_value = ((
-    omega arith,
-    (
-      pick_no _ _ _ _ (node_good _ _ (omega arith) (omega arith)) refl,
-      λ s v. rw (nil_visit _ _ s c.if-e-eq0.true) v,
-    ),
-  )).1;
-  shown = ((
-    omega arith,
-    (
-      pick_no _ _ _ _ (node_good _ _ (omega arith) (omega arith)) refl,
-      λ s v. rw (nil_visit _ _ s c.if-e-eq0.true) v,
-    ),
-  )).2;
+  tail_bound = omega arith;
+  hurt_value = pick_no _ _ _ _ (node_good _ _ (omega arith) (omega arith)) refl;
+  shown = λ s v. rw (nil_visit _ _ s c.if-e-eq0.true) v;
 }
 
 pub returns-then-bad_edge : goal.returns-then-bad_edge
 returns-then-bad_edge c =
-    let bad = sym c.if-bad_edge.true ∙ c.bad_edge.ensures in record {
-      tail_bound = ((
-        omega arith,
-        (pick_yes _ _ _ _ bad c.lower.ensures, λ s v. rw (bad_visit _ _ s bad) v),
-      )).0;
-      hurt_value = ((
-        omega arith,
-        (pick_yes _ _ _ _ bad c.lower.ensures, λ s v. rw (bad_visit _ _ s bad) v),
-      )).1;
-      shown = ((
-        omega arith,
-        (pick_yes _ _ _ _ bad c.lower.ensures, λ s v. rw (bad_visit _ _ s bad) v),
-      )).2;
+    let bad = sym c.if-bad_edge.true ∙ c.bad_edge.ensures in
+    record {
+      tail_bound = omega arith;
+      hurt_value = pick_yes _ _ _ _ bad c.lower.ensures;
+      shown = λ s v. rw (bad_visit _ _ s bad) v;
     }
 
 pub bounds-marks-at : goal.bounds-marks-at
@@ -64,39 +37,23 @@ bounds-marks-at-2 c =
 
 pub overflow_cast-end : goal.overflow_cast-end
 overflow_cast-end c =
-    let w = c.requires.m_in_bounds.1.1 in
+    let w = c.requires.shows in
     let e = c.args.e in
     omega (arith, w.shown.mark e, one_le (num_of w.some e))
 
 pub overflow_sub-end : goal.overflow_sub-end
 overflow_sub-end c =
-    let w = c.requires.m_in_bounds.1.1 in
+    let w = c.requires.shows in
     let e = c.args.e in
     omega (arith, w.shown.mark e, one_le (num_of w.some e))
 
 pub returns : goal.returns
 returns c =
     let good = sym c.if-bad_edge.false ∙ c.bad_edge.ensures in
-    let some = c.if-e-eq0.false in record {
-      tail_bound = ((
-        omega arith,
-        (
-          pick_no _ _ _ _ good refl,
-          λ s v. shown_visit v _ good some (omega (arith, not_bad _ _ (sym good))) (omega arith),
-        ),
-      )).0;
-      hurt_value = ((
-        omega arith,
-        (
-          pick_no _ _ _ _ good refl,
-          λ s v. shown_visit v _ good some (omega (arith, not_bad _ _ (sym good))) (omega arith),
-        ),
-      )).1;
-      shown = ((
-        omega arith,
-        (
-          pick_no _ _ _ _ good refl,
-          λ s v. shown_visit v _ good some (omega (arith, not_bad _ _ (sym good))) (omega arith),
-        ),
-      )).2;
+    let some = c.if-e-eq0.false in
+    record {
+      tail_bound = omega arith;
+      hurt_value = pick_no _ _ _ _ good refl;
+      shown = λ s v. shown_visit v _ good some (omega (arith, not_bad _ _ (sym good)))
+          (omega arith);
     }

@@ -1,11 +1,9 @@
 -- `visit_slots` meets its contract: before node n the slots' nodes below it are visited, and no
 -- other is marked.
 use mathlib.Core.Path.{◌≡◌, refl, ◌∙◌}
-use Prim.Native.Nat.{ℕ, ◌+◌, ◌-◌, ◌≤◌}
+use Prim.Native.Nat.{◌+◌, ◌-◌}
 use native.Mathlib.Omega.{arith}
-use lib.ListN.{length, get_or, length-set}
-use Rattle.rules.specs.Meet.{met, blank, visit_slots}
-use Rattle.meet.specs.Shown.{Shown}
+use lib.ListN.{length-set}
 use Rattle.meet.proofs.Shows.{shown_none, shown_slot, slot_other}
 use Rattle.meet.proofs.visit_slots.Goals as goal
 
@@ -15,8 +13,8 @@ loop-n-init c = (
   omega arith,
   refl,
   refl,
-  λ j h. c.requires.r_le_most_slots.1.1.1.1 j,
-  shown_none _ _ _ (omega arith) c.requires.r_le_most_slots.1.1.1.1,
+  λ j h. c.requires.by_index j,
+  shown_none _ _ _ (omega arith) c.requires.by_index,
 )
 
 pub loop-n-preserved : goal.loop-n-preserved

@@ -1,17 +1,16 @@
 -- `visit_slots` meets its contract: before node n the slots' nodes below it are visited, and no
 -- other is marked.
-use mathlib.Core.Path.{◌≡◌, refl, ◌∙◌}
+use mathlib.Core.Path.{◌≡◌}
 use Prim.Native.Nat.{ℕ, ◌+◌, ◌-◌, ◌≤◌}
-use native.Mathlib.Omega.{arith}
-use lib.ListN.{length, get_or, length-set}
+use lib.ListN.{length, get_or}
 use Rattle.rules.specs.Meet.{met, blank, visit_slots}
 use Rattle.meet.specs.Shown.{Shown}
-use Rattle.meet.proofs.Shows.{shown_none, shown_slot, slot_other}
 use Rattle.meet.proofs.visit_slots.Given as goal
 
 abbrev pub invariant-loop-n : goal.invariant-loop-n
 invariant-loop-n l =
-    (2 ≤ l.n) × (l.n ≤ l.r + 2) × (length l.marks ≡ length l.initial.marks) × (length l.order ≡ length l.initial.order)
+    (2 ≤ l.n) × (l.n ≤ l.r + 2) × (length l.marks ≡ length l.initial.marks)
+    × (length l.order ≡ length l.initial.order)
     × ((j : ℕ) → l.n ≤ j → get_or l.marks j 0 ≡ 0)
     × Shown l.m l.marks l.order l.n (visit_slots l.m (l.n - 2) (met blank blank 2))
 

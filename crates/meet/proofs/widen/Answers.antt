@@ -1,8 +1,7 @@
 -- `widen` meets its contract: after k turns the first k entries are copied.
-use mathlib.Core.Path.{◌≡◌, refl}
-use Prim.Native.Nat.{ℕ, ◌-◌, ◌≤◌, ◌<◌}
+use mathlib.Core.Path.{refl}
 use native.Mathlib.Omega.{arith}
-use lib.ListN.{length, get_or, length-set}
+use lib.ListN.{length-set}
 use Rattle.meet.proofs.Shows.{copied_next}
 use Rattle.meet.proofs.widen.Goals as goal
 

@@ -1,9 +1,7 @@
 -- `widen` meets its contract: after k turns the first k entries are copied.
-use mathlib.Core.Path.{◌≡◌, refl}
+use mathlib.Core.Path.{◌≡◌}
 use Prim.Native.Nat.{ℕ, ◌-◌, ◌≤◌, ◌<◌}
-use native.Mathlib.Omega.{arith}
-use lib.ListN.{length, get_or, length-set}
-use Rattle.meet.proofs.Shows.{copied_next}
+use lib.ListN.{length, get_or}
 use Rattle.meet.proofs.widen.Given as goal
 
 abbrev pub invariant-loop-k : goal.invariant-loop-k
