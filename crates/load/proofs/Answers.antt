@@ -19,9 +19,9 @@ use Rattle.rules.specs.Records.{fresh_record}
 use Rattle.rules.specs.Fresh.{tabulate, all_white}
 use Rattle.rules.specs.Steps.{code_of, node_of}
 use Rattle.rules.specs.Meet.{Met, blank, meet, any_edge, first_side}
-use Rattle.rules.specs.Load.{load_size_of, load_size_ok, bad_given, first_bad, bad_at, Chained, chained}
-use Rattle.rules.specs.Load.{chain, chain_length, is_shared, first_shared, judge_free, judge, load_by}
-use Rattle.rules.specs.Load.{load}
+use Rattle.rules.specs.Load.{load_size_of, load_size_ok, bad_given, first_bad, bad_at, Chained}
+use Rattle.rules.specs.Load.{chained, chain, chain_length, is_shared, first_shared, judge_free}
+use Rattle.rules.specs.Load.{judge, load_by, load}
 use Rattle.rules.specs.declared.Record.{Record}
 use Rattle.rules.specs.declared.Answer.{Answer}
 use Rattle.rules.specs.declared.Answer.TheVariants.{Refused}
@@ -74,7 +74,8 @@ module _ {m k h : ℕ} {es : List (List ℕ)} {marks : List ℕ} {s : Met}
   pub shared_same : (free : List ℕ) → first_shared m free marks ≡ first_shared m free s.num
   unfolding first_shared is_shared
   shared_same free =
-      lowest_same _ _ m 0 (λ n. ap (λ (b : Bool). every (not (eqb (get_or free n 0) 0) ∷ not b ∷ []))
+      lowest_same _ _ m 0 (λ n.
+      ap (λ (b : Bool). every (not (eqb (get_or free n 0) 0) ∷ not b ∷ []))
       (same_test _ _ (w.mark n)))
 
 -- marks of free nodes that agree serve alike

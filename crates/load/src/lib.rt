@@ -1,11 +1,13 @@
 // Load: a table from lists of edges, which are judged first.
 #![tactic(auto)]
 
-ghost use Rattle.std.specs.Prelude.{◌≡◌, List, [], ◌∷◌, ℕ, ◌+◌, ◌<◌, ◌≤◌, length, get_or, take, true};
+ghost use Rattle.std.specs.Prelude.{◌≡◌, List, [], ◌∷◌, ℕ, ◌+◌, ◌<◌, ◌≤◌};
+ghost use Rattle.std.specs.Prelude.{length, get_or, take, true};
 ghost use Rattle.rules.specs.Table.{most_nodes, most_slots, handed, refused_with, refused};
 ghost use Rattle.rules.specs.Meet.{blank, meet, any_edge, first_side};
 ghost use Rattle.rules.specs.Load.{load_size_of, bad_given, first_bad, chained, chain};
-ghost use Rattle.rules.specs.Load.{chain_length, is_shared, first_shared, judge_free, load_by, load};
+ghost use Rattle.rules.specs.Load.{chain_length, is_shared, first_shared, judge_free};
+ghost use Rattle.rules.specs.Load.{load_by, load};
 ghost use Rattle.rules.specs.Steps.{code_of};
 ghost use Rattle.load.specs.GoodEdges.{Below, load_good};
 ghost use Rattle.rules.specs.Lent.{leaves};
