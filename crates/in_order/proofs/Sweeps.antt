@@ -7,7 +7,7 @@ use native.Mathlib.Omega.{arith}
 use Rattle.base.proofs.Tests.{each, facts}
 use Rattle.rules.specs.declared.Record.{Record}
 use Rattle.rules.specs.declared.Phase.TheVariants.{Roots, Append}
-use Rattle.rules.specs.Table.{State, state, shade_in, most_nodes}
+use Rattle.rules.specs.Table.{state, shade_in, most_nodes}
 use Rattle.rules.specs.Facts.{many_steps}
 use Rattle.rules.specs.Phases.{position}
 use Rattle.rules.specs.Check.{free_ok, bound}
