@@ -12,14 +12,12 @@ use native.Mathlib.Nat.{mod-eq_of_lt}
 use Rattle.base.proofs.Tests.{pick_yes, pick_no, eq_yes, eq_no}
 use Rattle.rules.specs.declared.Record.{Record}
 use Rattle.rules.specs.Table.{shade_in}
-use Rattle.rules.specs.Changes.{differing}
 use Rattle.rules.proofs.Changes.{one_grayed}
-use Rattle.skim.specs.Stops.{stops, NoStop}
 use Rattle.skim.proofs.NoStops.{round, nowhere, towards}
 use Rattle.ahead.specs.Leads.{Room}
 use Rattle.scanning.specs.declared.ScanAt.{ScanAt}
 use Rattle.scanning.specs.declared.Chain.{Chain}
-use Rattle.scanning.specs.Marking.{Valid, ScanLeads, CanVisit}
+use Rattle.scanning.specs.Marking.{Valid, ScanLeads}
 use Rattle.scanning.specs.Chains.{along, Follows, OneGray, CanFollow}
 use Rattle.scanning.proofs.Marks.{at, goes_on, looks_on, visits, gray_stop, grayed_more}
 use Rattle.scanning.proofs.Marks.{few_left}

@@ -1,0 +1,77 @@
+-- `follow` meets its contract: a chain begins where the node made gray last is the only one. The
+-- place that it was followed to is the position that is answered.
+use mathlib.Core.Path.{refl, sym}
+use native.Mathlib.Omega.{arith}
+use Rattle.base.proofs.Tests.{not_no}
+use Rattle.scanning.proofs.Marks.{at, stays}
+use Rattle.scanning.proofs.Chains.{begins_chain}
+use Rattle.scanning.proofs.follow.Goals as goal
+
+pub one_gray-requires : goal.one_gray-requires
+one_gray-requires c = let p = c.requires.valid in
+    let h = at _ _ _ _ _ p.passes in
+    let t = p.grayed in let d = p.within in record { grayed_in_bounds = omega arith; m_le_most_nodes = omega arith; d_le_cap = omega arith }
+
+pub returns-then-not-one_gray : goal.returns-then-not-one_gray
+returns-then-not-one_gray c = stays _ _ _ _ _ _ c.requires.valid
+
+pub before-requires : goal.before-requires
+before-requires c = let p = c.requires.valid in
+    let h = at _ _ _ _ _ p.passes in
+    omega arith
+
+pub follow_left-q-requires : goal.follow_left-q-requires
+follow_left-q-requires c = let p = c.requires.valid in
+    let h = at _ _ _ _ _ p.passes in
+    let o = c.one_gray.ensures (sym (not_no _ c.if-not-one_gray.false-raw)) in record {
+      room = c.requires.room;
+      one_gray = o;
+      follows = begins_chain _ _ _ _ _ _ _ p c.requires.room o c.before-2.ensures.0
+          c.before-2.ensures.1 refl refl refl;
+    }
+
+pub overflow_add-q : goal.overflow_add-q
+overflow_add-q c = let f = c.follow_left-q.ensures in
+    let v = f.leads.valid in
+    let g = at _ _ _ _ _ v.passes in
+    let last = f.last in
+    let low = f.low in
+    omega arith
+
+pub around-requires : goal.around-requires
+around-requires c = let f = c.follow_left-q.ensures in
+    let v = f.leads.valid in
+    let g = at _ _ _ _ _ v.passes in
+    let last = f.last in
+    let low = f.low in
+    omega arith
+
+pub overflow_sub-result : goal.overflow_sub-result
+overflow_sub-result c = let f = c.follow_left-q.ensures in
+    let v = f.leads.valid in
+    let g = at _ _ _ _ _ v.passes in
+    let last = f.last in
+    let low = f.low in
+    omega arith
+
+pub overflow_mul-result : goal.overflow_mul-result
+overflow_mul-result c = let f = c.follow_left-q.ensures in
+    let v = f.leads.valid in
+    let g = at _ _ _ _ _ v.passes in
+    let last = f.last in
+    let low = f.low in
+    omega arith
+
+pub overflow_add-result : goal.overflow_add-result
+overflow_add-result c = let f = c.follow_left-q.ensures
+    in
+    let v = f.leads.valid in
+    let g = at _ _ _ _ _ v.passes in
+    let last = f.last in
+    let low = f.low in
+    let p = c.requires.valid in
+    let h = at _ _ _ _ _ p.passes in
+    let d = p.told in let w = p.within in omega arith
+
+pub returns : goal.returns
+returns c = rw c.around.ensures c.follow_left-q.ensures.leads

@@ -1,0 +1,30 @@
+-- `look_on` meets its contract: `idle_looks` gives a number of looks that find nothing, below k and
+-- within cap. So many looks move i and k by as many and change nothing else.
+use mathlib.Core.Path.{refl}
+use native.Mathlib.Omega.{arith}
+use Rattle.scanning.proofs.Marks.{at, looks_on}
+use Rattle.scanning.proofs.look_on.Goals as goal
+
+pub overflow_sub-s : goal.overflow_sub-s
+overflow_sub-s c =
+    let g = at _ _ _ _ _ c.requires.valid.passes in omega arith
+
+pub idle_looks-e-requires : goal.idle_looks-e-requires
+idle_looks-e-requires c =
+    let g = at _ _ _ _ _ c.requires.valid.passes in record { colour_len = omega arith; m_le_most_nodes = omega arith; m_bound = omega arith; i_lt_m = omega arith; grayed_lt_m = omega arith }
+
+pub overflow_add-s : goal.overflow_add-s
+overflow_add-s c =
+    let g = at _ _ _ _ _ c.requires.valid.passes in omega arith
+
+pub around-requires : goal.around-requires
+around-requires c =
+    let g = at _ _ _ _ _ c.requires.valid.passes in omega arith
+
+pub returns : goal.returns
+returns c =
+    let g =
+    at _ _ _ _ _ c.requires.valid.passes in
+    looks_on _ _ _ _ _ _ _ _ c.requires.valid c.requires.room
+    c.idle_looks-e.ensures.1 (omega arith) (omega arith)
+    c.around.ensures refl refl refl refl refl refl
