@@ -8,7 +8,6 @@ use mathlib.Core.Path.{◌≡◌, refl, sym, subst, ◌∙◌}
 use lib.Dec.{eqb}
 use lib.Bits.{bit_or, or_lt, or_add_and, and_le_l, and_le_r}
 use borrow.Author.Tests.{leb-true, eqb-true, eqb-false}
-use Rattle.base.specs.Choice.{every}
 use Rattle.base.proofs.Tests.{each, every_skip, every_last, eq_yes, le_yes, pick_no, tests}
 use Rattle.rules.specs.declared.Record.{Record}
 use Rattle.rules.specs.Phases.{most_tag}
