@@ -55,6 +55,36 @@ def split_top(s):
     return out
 
 
+def whole_paren(t):
+    depth = 0
+    for i, ch in enumerate(t):
+        if ch in '({[': depth += 1
+        if ch in ')}]':
+            depth -= 1
+            if depth == 0: return i == len(t) - 1
+    return False
+
+
+def chain(digits, names):
+    """old nested digits to a clause's name; returns name and how many digits were used, or None"""
+    n = len(names)
+    if n < 2: return None
+    k = 0
+    while k < len(digits) and digits[k] == '1' and k < n - 1: k += 1
+    if k == n - 1: return names[-1], k
+    if k < len(digits) and digits[k] == '0': return names[k], k + 1
+    return None
+
+
+def unchain(text, name, lab):
+    def put(k):
+        digits = k.group(1).split('.')[1:]
+        got = chain(digits, lab)
+        if not got: return k.group(0)
+        return '.'.join([name, got[0]] + digits[got[1]:])
+    return re.sub(r"(?<![\w.-])%s((?:\.\d+)+)" % re.escape(name), put, text)
+
+
 def tuple_to_record(body, parts):
     s = body.rstrip()
     if not s.endswith(')'): return None
@@ -65,9 +95,19 @@ def tuple_to_record(body, parts):
             depth -= 1
             if depth == 0: break
     items = split_top(s[i + 1:-1])
+    while len(items) == 2 and len(items) < len(parts) or len(items) < len(parts):
+        t = items[-1].strip()
+        if not (t.startswith('(') and t.endswith(')')): break
+        more = split_top(t[1:-1])
+        if len(more) < 2 or whole_paren(t) is False: break
+        items = items[:-1] + more
     if re.search(r"\b(omega|search|grind|cc|simp|rw)\s*$", s[:i]): return None
     if len(items) != len(parts): return None
-    return s[:i] + 'record { ' + '; '.join('%s = %s' % (n, it.strip()) for n, it in zip(parts, items)) + ' }'
+    hard = [(n, it.strip()) for n, it in zip(parts, items) if it.strip() not in ('omega arith', 'search rules')]
+    if len(hard) == 1:
+        it = hard[0][1]
+        return hard[0][0], s[:i] + (it if s[:i].strip() == '' or not whole_paren(it) else it)
+    return s[:i] + 'record { ' + '; '.join('%s = %s' % (n, ' '.join(it.split())) for n, it in zip(parts, items)) + ' }'
 
 
 TACTICS = ('omega', 'search', 'grind', 'cc', 'simp', 'record')
@@ -171,10 +211,24 @@ def convert(fn, key, path):
         if s in ('args', 'requires', 'ranges', 'type_inv', 'auto'):
             if s == 'requires' and len(rest) > 1 and d.get('pre') and rest[1].isdigit():
                 pre = d['pre']['fields']
-                try: rest[1] = pre[int(rest[1])]
-                except Exception: todo.append('requires ' + tok)
+                digits = []
+                for x in rest[1:]:
+                    if not x.isdigit(): break
+                    digits.append(x)
+                got = chain(digits, pre)
+                if got: rest[1:1 + got[1]] = [got[0]]
+                else: todo.append('requires ' + tok)
             return '.'.join(['c'] + rest)
-        if s == 'pre': return '.'.join(['c', 'requires'] + rest[1:])
+        if s == 'pre':
+            rest[0] = s = 'requires'
+            if len(rest) > 1 and d.get('pre'):
+                digits = []
+                for x in rest[1:]:
+                    if not x.isdigit(): break
+                    digits.append(x)
+                got = chain(digits, d['pre']['fields'])
+                if got: rest[1:1 + got[1]] = [got[0]]
+            return '.'.join(['c'] + rest)
         hs = H(s)
         if hs not in steps and hs[:1].isupper() and hs[0].lower() + hs[1:] in steps: hs = hs[0].lower() + hs[1:]
         if hs in arms and len(rest) > 1 and rest[1] == 'given':
@@ -186,12 +240,18 @@ def convert(fn, key, path):
             r2 = rest[1:]
             if r2 and r2[0] == 'left' and hs.startswith('if'): r2 = ['false'] + r2[1:]
             if r2 and r2[0] == 'right' and hs.startswith('if'): r2 = ['true'] + r2[1:]
+            if r2 and r2[0] == 'inv': r2 = ['invariant'] + r2[1:]
             if r2 and r2[0] in fields.get(hs, {}):
                 r2 = [fields[hs][r2[0]]] + r2[1:]
             if len(r2) > 1 and r2[0] == 'ensures' and r2[1].isdigit() and callee.get(hs) in LABELS:
                 cl = LABELS[callee[hs]][1]
-                try: r2[1] = cl[int(r2[1])]
-                except Exception: todo.append('clause ' + tok)
+                digits = []
+                for x in r2[1:]:
+                    if not x.isdigit(): break
+                    digits.append(x)
+                got = chain(digits, cl)
+                if got: r2[1:1 + got[1]] = [got[0]]
+                else: todo.append('clause ' + tok)
             return '.'.join(['c', n] + r2)
         todo.append('step ' + tok)
         return '.'.join(['c'] + rest)
@@ -207,10 +267,10 @@ def convert(fn, key, path):
         for m in list(re.finditer(r"let (\S+) =\s+c\.(\S+)\.ensures\s+in\s", text)):
             cal = next((callee.get(o) for o, n in steps.items() if n == m.group(2) and callee.get(o)), None)
             lab = LABELS.get(cal, ([], []))[1]
-            if lab: text = re.sub(r"(?<![\w.-])%s\.(\d+)" % re.escape(m.group(1)), lambda k: m.group(1) + '.' + lab[int(k.group(1))], text)
+            if lab: text = unchain(text, m.group(1), lab)
         for m in list(re.finditer(r"let (\S+) =\s+c\.requires\s+in\s", text)):
             lab = d['pre']['fields'] if d.get('pre') else None
-            if lab: text = re.sub(r"(?<![\w.-])%s\.(\d+)" % re.escape(m.group(1)), lambda k: m.group(1) + '.' + lab[int(k.group(1))], text)
+            if lab: text = unchain(text, m.group(1), lab)
         return text
 
     local = {}
@@ -245,11 +305,14 @@ def convert(fn, key, path):
         bodytext = mb.group(2)
         if bodytext.strip() in ('search rules', 'omega arith', 'grind arith') and not unf: continue
         nb = body_of(bodytext)
+        more = [a for a in mb.group(1).split()[1:] if a != 'κs']
+        if more: nb = ' λ %s.%s' % (' '.join(more), nb)
         parts = asked.get(old) or asked.get(oldk) or next((v for k, v in asked.items() if H(k) == H(old)), None)
         if parts:
             nb2 = tuple_to_record(nb, parts)
             if nb2 is None: nb2 = projected(nb, parts)
             if nb2 is None: todo.append('asked %s %s' % (new, parts))
+            elif isinstance(nb2, tuple): new, nb = new + '-clause-' + nb2[0], nb2[1]
             else: nb = nb2
         out.append('\n'.join(comments + ['pub %s : goal.%s' % (new, new)] + unf + ['%s c =%s' % (new, nb)]))
     uses = [l for l in head if not re.search(r"\.(Statement\.\{statement\}|Tie as tie)$", l) ]

@@ -1,0 +1,13 @@
+-- A count of 0 is the empty schedule, which judges codes 1 and 2; any other count is what
+-- `collect_some` promises.
+use borrow.Author.Rules.{rules}
+use Rattle.lines.proofs.Collects.{nothing}
+use Rattle.lines.proofs.collect.Goals as goal
+
+pub returns-then-n-gt0 : goal.returns-then-n-gt0
+returns-then-n-gt0 c =
+    c.collect_some.ensures
+
+pub returns : goal.returns
+returns c =
+    nothing _ _ _ c.if-n-gt0.false c.collect_many-none.ensures

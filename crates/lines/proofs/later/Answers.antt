@@ -1,0 +1,23 @@
+-- What the line says decides, by the definition's cases, and each case is one call's contract.
+use borrow.Author.Rules.{rules}
+use Rattle.lines.specs.Lines.{answered, later}
+use Rattle.lines.proofs.later.Goals as goal
+
+pub returns-in-Do : goal.returns-in-Do
+unfolding later
+returns-in-Do c =
+    rw (← c.read-said.ensures, c.in-Do.is, ← c.step.ensures.colour_value)
+    (c.answered.ensures _ _ _)
+
+pub returns-in-Collect : goal.returns-in-Collect
+unfolding later
+returns-in-Collect c =
+    rw (← c.read-said.ensures, c.in-Collect.is) c.collect.ensures
+
+pub returns-in-First : goal.returns-in-First
+unfolding later
+returns-in-First c = rw (← c.read-said.ensures, c.in-First.is)
+
+pub returns-in-Unreadable : goal.returns-in-Unreadable
+unfolding later
+returns-in-Unreadable c = rw (← c.read-said.ensures, c.in-Unreadable.is)
