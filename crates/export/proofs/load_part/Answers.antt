@@ -1,0 +1,15 @@
+-- `load_part` meets its contract: the parts that are lent are the table and the lists, and what
+-- lies behind the table stays.
+use native.Mathlib.Omega.{arith}
+use Rattle.session.proofs.Parts.{lent}
+use Rattle.export.proofs.Filled.{replaced}
+use borrow.Author.Rules.{rules}
+use Rattle.export.proofs.load_part.Goals as goal
+
+pub returns : goal.returns
+returns c =
+    replaced _ _ _ _ _ _ _ _ _ _ _ _ _ _ _ _ _ _ _
+    (lent _ _ _ _ c.least-a.ensures (omega arith))
+    (lent _ _ _ _ c.least-b.ensures (omega arith))
+    (lent _ _ _ _ c.least-c.ensures (omega arith)) c.least-d.ensures
+    c.least-e.ensures c.load.ensures

@@ -1,0 +1,14 @@
+-- `serve` meets its contract: the three parts that are lent are the table, and what lies behind
+-- them stays.
+use native.Mathlib.Omega.{arith}
+use Rattle.session.proofs.Parts.{lent}
+use Rattle.serving.proofs.Served.{served}
+use borrow.Author.Rules.{rules}
+use Rattle.serving.proofs.serve.Goals as goal
+
+pub returns : goal.returns
+returns c =
+    served _ _ _ _ _ _ _ _ _ _ _ _ _ _ _ _ _
+    (lent _ _ _ _ c.least-a.ensures (omega arith))
+    (lent _ _ _ _ c.least-b.ensures (omega arith))
+    (lent _ _ _ _ c.least-c.ensures (omega arith)) c.feed-run.ensures
