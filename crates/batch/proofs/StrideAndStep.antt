@@ -150,7 +150,8 @@ module _ (b : ℕ) (s : State) (d v : ℕ) (a : Answer) (t : State) (p : StrideA
           let y = rw z at e in
           let x = p.sum_refused f (n - d - 1) in omega arith
 
-      pub on_summed : (k : ℕ) → n ≡ d + suc k → code_of a ≡ 0 → w ≡ u + v + changes_all (collects k) t
+      pub on_summed : (k : ℕ) → n ≡ d + suc k → code_of a ≡ 0
+          → w ≡ u + v + changes_all (collects k) t
       on_summed k h f = let y = rw h at e in let x = p.sum f k in omega arith
 
       pub spoilt_summed : false ≡ in_limits t.rec b → code_of a ≡ 0 → d < n → u + v ≡ w

@@ -23,7 +23,10 @@ loop-done-init c = (
 )
 
 pub stride_and_step-gone-requires : goal.stride_and_step-gone-requires
-stride_and_step-gone-requires c = record { passes = c.loop-done.invariant.4; b_value = c.loop-done.invariant.5 }
+stride_and_step-gone-requires c = record {
+  passes = c.loop-done.invariant.4;
+  b_value = c.loop-done.invariant.5;
+}
 
 pub overflow_add-changed : goal.overflow_add-changed
 overflow_add-changed c =
@@ -58,19 +61,10 @@ overflow_add-done-in-loop-done c =
 
 pub in_limits-requires : goal.in_limits-requires
 in_limits-requires c =
-    let gone = c.stride_and_step-gone.ensures.1 in record { r_le_most_slots = (sizes_still _ _ _ _ _ _ c.loop-done.invariant.4 gone.m gone.r).0; r_bound = (sizes_still _ _ _ _ _ _ c.loop-done.invariant.4 gone.m gone.r).1 }
-
-pub shape_of-left-then-not-in_limits : goal.shape_of-left-then-not-in_limits
-shape_of-left-then-not-in_limits c =
-    omega (arith, c.left-1.given, c.loop-done.invariant.0)
-
-pub shape_of-right-then-not-in_limits : goal.shape_of-right-then-not-in_limits
-shape_of-right-then-not-in_limits c =
-    omega (arith, c.right-1.given, c.loop-done.invariant.1)
-
-pub shape_of-colour-then-not-in_limits : goal.shape_of-colour-then-not-in_limits
-shape_of-colour-then-not-in_limits c =
-    omega (arith, c.colour-1.given, c.loop-done.invariant.2)
+    let gone = c.stride_and_step-gone.ensures.1 in record {
+      r_le_most_slots = (sizes_still _ _ _ _ _ _ c.loop-done.invariant.4 gone.m gone.r).0;
+      r_bound = (sizes_still _ _ _ _ _ _ c.loop-done.invariant.4 gone.m gone.r).1;
+    }
 
 pub returns-then-not-in_limits : goal.returns-then-not-in_limits
 returns-then-not-in_limits c =
@@ -95,9 +89,9 @@ loop-done-preserved c =
     let lt = c.loop-done-test.true in
     let most = c.stride_and_step-gone.ensures.0 in
     let done = sym c.code.ensures ∙ c.if-code-ne0.false in (
-      omega (arith, c.left-1.given, c.loop-done.invariant.0),
-      omega (arith, c.right-1.given, c.loop-done.invariant.1),
-      omega (arith, c.colour-1.given, c.loop-done.invariant.2),
+      omega arith,
+      omega arith,
+      omega arith,
       omega (arith, lt, most),
       gone.passes (sym c.if-not-in_limits.false ∙ c.in_limits.ensures),
       rw (gone.m, gone.r) c.loop-done.invariant.5,
@@ -108,4 +102,7 @@ loop-done-preserved c =
     )
 
 pub returns : goal.returns
-returns c = record { rec_value = none_left _ _ _ _ (omega arith) ∙ sym c.loop-done.invariant.6; changed_value = none_summed _ _ _ _ c.loop-done.invariant.8 (omega arith) }
+returns c = record {
+  rec_value = none_left _ _ _ _ (omega arith) ∙ sym c.loop-done.invariant.6;
+  changed_value = none_summed _ _ _ _ c.loop-done.invariant.8 (omega arith);
+}

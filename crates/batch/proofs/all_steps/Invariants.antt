@@ -14,11 +14,15 @@ use Rattle.batch.proofs.all_steps.Given as goal
 abbrev pub invariant-loop-done : goal.invariant-loop-done
 invariant-loop-done l =
     (length l.left ≡ length l.initial.left) × (length l.right ≡ length l.initial.right) ×
-    (length l.colour ≡ length l.initial.colour) × (l.done ≤ l.n) × (Passes (state l.left l.right l.colour l.rec)) ×
+    (length l.colour ≡ length l.initial.colour) × (l.done ≤ l.n) ×
+    (Passes (state l.left l.right l.colour l.rec)) ×
     (l.b ≡ bound 2 l.rec.m l.rec.r) ×
-    (more l.n 0 l.initial.answer (state l.initial.left l.initial.right l.initial.colour l.initial.rec)
+    (more l.n 0 l.initial.answer
+    (state l.initial.left l.initial.right l.initial.colour l.initial.rec)
     ≡ more (l.n - l.done) l.done l.answer (state l.left l.right l.colour l.rec)) ×
-    (l.changed ≤ l.done) × (changes_all (collects l.n) (state l.initial.left l.initial.right l.initial.colour l.initial.rec)
+    (l.changed ≤ l.done) ×
+    (changes_all (collects l.n)
+    (state l.initial.left l.initial.right l.initial.colour l.initial.rec)
     ≡ l.changed + changes_all (collects (l.n - l.done)) (state l.left l.right l.colour l.rec))
 
 abbrev pub decreases-loop-done : goal.decreases-loop-done

@@ -9,12 +9,18 @@ use Rattle.batch.proofs.collect_many.Goals as goal
 
 pub returns-then-code-ne0 : goal.returns-then-code-ne0
 returns-then-code-ne0 c =
-    let code = c.check-code.ensures in record { colour_value = rw c.refused.ensures (unscheduled _ _ _ code c.if-code-ne0.true); changed_value = sym (sum_none _ _ (λ z. c.if-code-ne0.true (code ∙ z))) }
+    let code = c.check-code.ensures in record {
+      colour_value = rw c.refused.ensures (unscheduled _ _ _ code c.if-code-ne0.true);
+      changed_value = sym (sum_none _ _ (λ z. c.if-code-ne0.true (code ∙ z)));
+    }
 
 pub bound-requires : goal.bound-requires
 bound-requires c = let g =
     good _ _ _ _ (sym c.if-code-ne0.false
-    ∙ c.check-code.ensures) in record { m_le_most_nodes = omega arith; r_le_most_slots = omega arith }
+    ∙ c.check-code.ensures) in record {
+      m_le_most_nodes = omega arith;
+      r_le_most_slots = omega arith;
+    }
 
 pub all_steps-requires : goal.all_steps-requires
 all_steps-requires c = record {
@@ -28,7 +34,9 @@ all_steps-requires c = record {
 pub returns : goal.returns
 returns c =
     record {
-      colour_value = scheduled _ _ _ _ _ (record { code = sym c.if-code-ne0.false ∙ c.check-code.ensures })
+      colour_value = scheduled _ _ _ _ _ (record {
+        code = sym c.if-code-ne0.false ∙ c.check-code.ensures;
+      })
           c.all_steps.ensures.rec_value;
       changed_value = c.all_steps.ensures.changed_value;
     }

@@ -23,7 +23,10 @@ stride-l-requires c =
     record { passes = c.requires.passes; room = room _ _ _ c.requires.b_value (omega arith) }
 
 pub phase_step-made-requires : goal.phase_step-made-requires
-phase_step-made-requires c = record { checked = (ready _ _ _ _ c.stride-l.ensures.1.passes).0; in_range = (ready _ _ _ _ c.stride-l.ensures.1.passes).1 }
+phase_step-made-requires c = record {
+  checked = (ready _ _ _ _ c.stride-l.ensures.1.passes).0;
+  in_range = (ready _ _ _ _ c.stride-l.ensures.1.passes).1;
+}
 
 pub overflow_add-result : goal.overflow_add-result
 overflow_add-result c =

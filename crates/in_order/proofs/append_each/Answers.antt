@@ -14,7 +14,11 @@ pub append_one-t-requires : goal.append_one-t-requires
 append_one-t-requires c =
     let inv = c.loop-s.invariant in
     let a = inv.4.low in
-    let b = inv.4.few in record { can_append = nearer _ _ _ _ _ _ _ inv.3 (omega arith) (omega arith); r_bound = omega arith; r_bound_2 = omega arith }
+    let b = inv.4.few in record {
+      can_append = nearer _ _ _ _ _ _ _ inv.3 (omega arith) (omega arith);
+      r_bound = omega arith;
+      r_bound_2 = omega arith;
+    }
 
 pub returns-then-t-s : goal.returns-then-t-s
 returns-then-t-s c =

@@ -14,13 +14,21 @@ limit-near-requires c =
     let can = c.requires in
     let g = at _ _ _ _ _ can.passes in
     let h = can.high in
-    let n = can.low in record { i_le_end = omega arith; end_le_most_nodes = omega arith; r_bound = omega arith }
+    let n = can.low in record {
+      i_le_end = omega arith;
+      end_le_most_nodes = omega arith;
+      r_bound = omega arith;
+    }
 
 pub append_each-requires : goal.append_each-requires
 append_each-requires c =
     let near = c.limit-near.ensures in
     let can = c.requires in
-    record { can_append = nearer _ _ _ _ _ _ _ can near.0 near.1; r_bound = omega arith; r_bound_2 = near.2 }
+    record {
+      can_append = nearer _ _ _ _ _ _ _ can near.0 near.1;
+      r_bound = omega arith;
+      r_bound_2 = near.2;
+    }
 
 pub returns : goal.returns
 returns c =

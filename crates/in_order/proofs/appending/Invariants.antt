@@ -11,7 +11,8 @@ abbrev pub invariant-loop-s : goal.invariant-loop-s
 invariant-loop-s l =
     (length l.left ≡ length l.initial.left) × (length l.right ≡ length l.initial.right) ×
     (length l.colour ≡ length l.initial.colour) × CanAppend l.left l.right l.colour l.x l.end l.s ×
-    AppendLeads l.initial.left l.initial.right l.initial.colour l.x l.initial.s l.left l.right l.colour l.s
+    AppendLeads l.initial.left l.initial.right l.initial.colour l.x l.initial.s l.left l.right
+    l.colour l.s
 
 abbrev pub decreases-loop-s : goal.decreases-loop-s
 decreases-loop-s l = l.end - l.s.i

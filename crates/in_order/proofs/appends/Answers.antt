@@ -42,7 +42,14 @@ pub swept-requires : goal.swept-requires
 swept-requires c =
     let g = at _ _ _ _ _ c.appending-s.ensures.1.leads.passes in
     let a = c.appending-s.ensures.1.low in
-    let z : position c.args.x.phase ≡ c.args.i = rw c.requires.phase_value in record { from_value = omega arith; from_le_i = omega arith; i_lt_most_nodes = omega arith; last_lt_most_nodes = omega arith; free_le_most_nodes = omega arith; from_bound = omega arith }
+    let z : position c.args.x.phase ≡ c.args.i = rw c.requires.phase_value in record {
+      from_value = omega arith;
+      from_le_i = omega arith;
+      i_lt_most_nodes = omega arith;
+      last_lt_most_nodes = omega arith;
+      free_le_most_nodes = omega arith;
+      from_bound = omega arith;
+    }
 
 pub returns : goal.returns
 returns c = (

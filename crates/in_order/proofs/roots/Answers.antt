@@ -11,12 +11,18 @@ overflow_sub-x c =
 
 pub shading-shaded-requires : goal.shading-shaded-requires
 shading-shaded-requires c =
-    let g = at_roots _ _ _ _ _ c.requires.passes c.requires.phase_value in record { cap_in_bounds = omega arith; colour_len_bound = omega arith }
+    let g = at_roots _ _ _ _ _ c.requires.passes c.requires.phase_value in record {
+      cap_in_bounds = omega arith;
+      colour_len_bound = omega arith;
+    }
 
 pub rooted-requires : goal.rooted-requires
 rooted-requires c =
     let g = at_roots _ _ _ _ _ c.requires.passes c.requires.phase_value in
-    let s = small _ _ c.requires.passes c.requires.room in record { d_bound = omega arith; d_bound_2 = omega arith }
+    let s = small _ _ c.requires.passes c.requires.room in record {
+      d_bound = omega arith;
+      d_bound_2 = omega arith;
+    }
 
 pub returns : goal.returns
 returns c =

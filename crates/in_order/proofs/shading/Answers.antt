@@ -14,6 +14,7 @@ loop-d-preserved c =
       omega arith,
       omega arith,
       shades_few _ _ _ _ _ _ c.loop-d.invariant.2 shaded.colour_value shaded.value,
-      shades_more _ _ _ _ _ _ _ _ c.loop-d.invariant.3 (omega arith) (omega arith) shaded.colour_value
+      shades_more _ _ _ _ _ _ _ _ c.loop-d.invariant.3 (omega arith) (omega arith)
+          shaded.colour_value
           shaded.value,
     )

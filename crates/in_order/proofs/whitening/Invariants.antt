@@ -8,7 +8,8 @@ use Rattle.in_order.proofs.whitening.Given as goal
 
 abbrev pub invariant-loop-s : goal.invariant-loop-s
 invariant-loop-s l =
-    (length l.colour ≡ length l.initial.colour) × (l.s.i ≤ l.end) × Whitens l.initial.colour l.end l.initial.s l.colour l.s
+    (length l.colour ≡ length l.initial.colour) × (l.s.i ≤ l.end) ×
+    Whitens l.initial.colour l.end l.initial.s l.colour l.s
 
 abbrev pub decreases-loop-s : goal.decreases-loop-s
 decreases-loop-s l = l.end - l.s.i

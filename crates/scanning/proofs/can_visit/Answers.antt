@@ -1,9 +1,7 @@
 -- `can_visit` meets its contract: `true` comes only from the last test, and each test passed on the
 -- way is a part of the fact.
-use mathlib.Core.Path.{sym}
 use mathlib.Core.Bool.{false≢true}
 use native.Mathlib.Omega.{arith}
-use Rattle.base.proofs.Tests.{not_no}
 use Rattle.scanning.proofs.Marks.{at}
 use Rattle.scanning.proofs.can_visit.Goals as goal
 
@@ -56,6 +54,6 @@ returns c =
           c.if-colour-i-ne1.false;
       left =
           c.can_shade.ensures
-          (sym (not_no _ c.if-not-can_shade.false-raw));
+          c.if-not-can_shade.false;
       right = c.can_shade-2.ensures h;
     }

@@ -1,8 +1,7 @@
 -- `follow` meets its contract: a chain begins where the node made gray last is the only one. The
 -- place that it was followed to is the position that is answered.
-use mathlib.Core.Path.{refl, sym}
+use mathlib.Core.Path.{refl}
 use native.Mathlib.Omega.{arith}
-use Rattle.base.proofs.Tests.{not_no}
 use Rattle.scanning.proofs.Marks.{at, stays}
 use Rattle.scanning.proofs.Chains.{begins_chain}
 use Rattle.scanning.proofs.follow.Goals as goal
@@ -10,7 +9,11 @@ use Rattle.scanning.proofs.follow.Goals as goal
 pub one_gray-requires : goal.one_gray-requires
 one_gray-requires c = let p = c.requires.valid in
     let h = at _ _ _ _ _ p.passes in
-    let t = p.grayed in let d = p.within in record { grayed_in_bounds = omega arith; m_le_most_nodes = omega arith; d_le_cap = omega arith }
+    let t = p.grayed in let d = p.within in record {
+      grayed_in_bounds = omega arith;
+      m_le_most_nodes = omega arith;
+      d_le_cap = omega arith;
+    }
 
 pub returns-then-not-one_gray : goal.returns-then-not-one_gray
 returns-then-not-one_gray c = stays _ _ _ _ _ _ c.requires.valid
@@ -23,7 +26,7 @@ before-requires c = let p = c.requires.valid in
 pub follow_left-q-requires : goal.follow_left-q-requires
 follow_left-q-requires c = let p = c.requires.valid in
     let h = at _ _ _ _ _ p.passes in
-    let o = c.one_gray.ensures (sym (not_no _ c.if-not-one_gray.false-raw)) in record {
+    let o = c.one_gray.ensures c.if-not-one_gray.false in record {
       room = c.requires.room;
       one_gray = o;
       follows = begins_chain _ _ _ _ _ _ _ p c.requires.room o c.before-2.ensures.0

@@ -1,8 +1,7 @@
 -- `follow_left` meets its contract: before each turn the steps lead from s to q, and the node at q
 -- is the only gray one. So the looks up to it find nothing, and its visit leaves the next one gray.
-use mathlib.Core.Path.{refl, sym}
+use mathlib.Core.Path.{refl}
 use native.Mathlib.Omega.{arith}
-use Rattle.base.proofs.Tests.{not_no}
 use Rattle.scanning.proofs.Marks.{at}
 use Rattle.scanning.proofs.Chains.{follows_on}
 use Rattle.scanning.proofs.follow_left.Goals as goal
@@ -102,7 +101,7 @@ overflow_cast-n c = let i = c.loop-q.invariant in
     let gray = v.grayed in
     let last = i.1.1.1.1.last in
     let few = i.1.1.1.1.low in
-    let w = c.can_follow.ensures (sym (not_no _ c.if-not-can_follow.false-raw)) in
+    let w = c.can_follow.ensures c.if-not-can_follow.false in
     let below = w.left.below in
     omega arith
 
@@ -113,7 +112,7 @@ pass_on-requires c = let i = c.loop-q.invariant in
     let gray = v.grayed in
     let last = i.1.1.1.1.last in
     let few = i.1.1.1.1.low in
-    let w = c.can_follow.ensures (sym (not_no _ c.if-not-can_follow.false-raw)) in
+    let w = c.can_follow.ensures c.if-not-can_follow.false in
     let below = w.left.below in record { i_in_bounds = omega arith; n_in_bounds = omega arith }
 
 pub overflow_add-q : goal.overflow_add-q
@@ -131,7 +130,11 @@ beyond-requires c = let i = c.loop-q.invariant in
     let g = at _ _ _ _ _ v.passes in
     let gray = v.grayed in
     let last = i.1.1.1.1.last in
-    let few = i.1.1.1.1.low in record { i_lt_m = omega arith; t_lt_m = omega arith; m_le_most_nodes = omega arith }
+    let few = i.1.1.1.1.low in record {
+      i_lt_m = omega arith;
+      t_lt_m = omega arith;
+      m_le_most_nodes = omega arith;
+    }
 
 pub overflow_add-q-in-loop-q : goal.overflow_add-q-in-loop-q
 overflow_add-q-in-loop-q c = let i = c.loop-q.invariant in
@@ -167,11 +170,9 @@ loop-q-preserved c = let i = c.loop-q.invariant in
     let gray = v.grayed in
     let last = i.1.1.1.1.last in
     let few = i.1.1.1.1.low in
-    let w = c.can_follow.ensures (sym (not_no _ c.if-not-can_follow.false-raw)) in
+    let w = c.can_follow.ensures c.if-not-can_follow.false in
     let beyond = c.beyond.ensures in
     let len = i.0 in
-    let lent = c.colour-1.given in
-    let known = c.slice_known-in-loop-q-1.given in
     let more = c.loop-q-test.true in
     let room = c.if-limit-q.false in (
       omega arith,

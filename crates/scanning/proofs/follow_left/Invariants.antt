@@ -8,7 +8,8 @@ use Rattle.scanning.proofs.follow_left.Given as goal
 
 abbrev pub invariant-loop-q : goal.invariant-loop-q
 invariant-loop-q l =
-    (length l.colour ≡ length l.initial.colour) × ((l.m ≡ l.x.m) × ((l.s.k ≡ l.x.m) × ((l.limit + (l.x.m + 5) ≡ l.cap)
+    (length l.colour ≡ length l.initial.colour) ×
+    ((l.m ≡ l.x.m) × ((l.s.k ≡ l.x.m) × ((l.limit + (l.x.m + 5) ≡ l.cap)
     × Follows l.left l.right l.initial.colour l.x l.cap l.s l.colour l.q)))
 
 abbrev pub decreases-loop-q : goal.decreases-loop-q

@@ -1,7 +1,5 @@
 -- `look_and_visit` meets its contract: the looks lead from s to h and the visit on from there,
 -- where `can_visit` has found all that it needs.
-use mathlib.Core.Path.{sym}
-use Rattle.base.proofs.Tests.{not_no}
 use Rattle.scanning.proofs.Marks.{goes_on}
 use Rattle.scanning.proofs.look_and_visit.Goals as goal
 
@@ -21,7 +19,7 @@ visit-v-requires c =
       valid = c.look_on-h.ensures.valid;
       room = c.requires.room;
       can_visit = (c.can_visit.ensures
-          (sym (not_no _ c.if-not-can_visit.false-raw)));
+          c.if-not-can_visit.false);
     }
 
 pub follow-requires : goal.follow-requires

@@ -11,7 +11,13 @@ overflow_sub-s c =
 
 pub idle_looks-e-requires : goal.idle_looks-e-requires
 idle_looks-e-requires c =
-    let g = at _ _ _ _ _ c.requires.valid.passes in record { colour_len = omega arith; m_le_most_nodes = omega arith; m_bound = omega arith; i_lt_m = omega arith; grayed_lt_m = omega arith }
+    let g = at _ _ _ _ _ c.requires.valid.passes in record {
+      colour_len = omega arith;
+      m_le_most_nodes = omega arith;
+      m_bound = omega arith;
+      i_lt_m = omega arith;
+      grayed_lt_m = omega arith;
+    }
 
 pub overflow_add-s : goal.overflow_add-s
 overflow_add-s c =

@@ -9,7 +9,8 @@ use Rattle.scanning.proofs.marking.Given as goal
 
 abbrev pub invariant-loop-s : goal.invariant-loop-s
 invariant-loop-s l =
-    (length l.colour ≡ length l.initial.colour) × ScanLeads l.left l.right l.initial.colour l.x l.cap l.initial.s l.colour l.s
+    (length l.colour ≡ length l.initial.colour) ×
+    ScanLeads l.left l.right l.initial.colour l.x l.cap l.initial.s l.colour l.s
 
 abbrev pub decreases-loop-s : goal.decreases-loop-s
 decreases-loop-s l = l.cap - l.s.d

@@ -15,7 +15,12 @@ marking-s-requires c =
 
 pub standing-requires : goal.standing-requires
 standing-requires c = let g =
-    at _ _ _ _ _ c.marking-s.ensures.valid.passes in record { i_lt_most_nodes = omega arith; k_le_most_nodes = omega arith; blackened_le_most_nodes = omega arith; d_bound = omega arith }
+    at _ _ _ _ _ c.marking-s.ensures.valid.passes in record {
+      i_lt_most_nodes = omega arith;
+      k_le_most_nodes = omega arith;
+      blackened_le_most_nodes = omega arith;
+      d_bound = omega arith;
+    }
 
 pub returns : goal.returns
 returns c = (

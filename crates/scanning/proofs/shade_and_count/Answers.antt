@@ -10,8 +10,14 @@ use Rattle.scanning.proofs.shade_and_count.Goals as goal
 
 pub returns-then-colour-at-eq0 : goal.returns-then-colour-at-eq0
 unfolding shade_in
-returns-then-colour-at-eq0 c = record { upper_bound = (omega arith, (search (tests, rules) depth 12, grayed_more _ _ (omega arith))); value = search (one_grayed, rules) }
+returns-then-colour-at-eq0 c = record {
+  upper_bound = (omega arith, (search (tests, rules) depth 12, grayed_more _ _ (omega arith)));
+  value = search (one_grayed, rules);
+}
 
 pub returns : goal.returns
 unfolding shade_in
-returns c = record { upper_bound = (omega arith, (search (tests, rules) depth 12, omega arith)); value = unchanged _ }
+returns c = record {
+  upper_bound = (omega arith, (search (tests, rules) depth 12, omega arith));
+  value = unchanged _;
+}

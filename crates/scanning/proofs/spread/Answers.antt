@@ -22,6 +22,7 @@ returns c =
           ),
         ),
       );
-      more_value = both_counted _ _ _ _ _ _ _ (omega (arith, c.requires)) (omega (arith, c.requires))
+      more_value = both_counted _ _ _ _ _ _ _ (omega (arith, c.requires))
+          (omega (arith, c.requires))
           first.upper_bound.1.0 second.upper_bound.1.0 first.value second.value;
     }

@@ -36,7 +36,12 @@ bounds-right-i c =
 pub spread-grayed-requires : goal.spread-grayed-requires
 spread-grayed-requires c =
     let g =
-    at _ _ _ _ _ c.requires.valid.passes in record { i_in_bounds = omega arith; e_in_bounds = omega (arith, c.requires.can_visit.left); f_in_bounds = omega (arith, c.requires.can_visit.right); i_value = c.requires.can_visit.gray }
+    at _ _ _ _ _ c.requires.valid.passes in record {
+      i_in_bounds = omega arith;
+      e_in_bounds = omega (arith, c.requires.can_visit.left);
+      f_in_bounds = omega (arith, c.requires.can_visit.right);
+      i_value = c.requires.can_visit.gray;
+    }
 
 pub overflow_add-i : goal.overflow_add-i
 overflow_add-i c =
