@@ -1,6 +1,7 @@
 -- Which nodes become free in many collector steps: the section Freed of docs/RULES.md.
 use Rattle.base.specs.Choice.{pick}
-use Rattle.std.specs.Prelude.{ℕ, zero, suc, ◌-◌, Bool, true, false, List, [], ◌∷◌, ◌++◌, length, drop, ltb, eqb}
+use Rattle.std.specs.Prelude.{ℕ, zero, suc, ◌-◌, Bool, true, false, List, [], ◌∷◌, ◌++◌, length}
+use Rattle.std.specs.Prelude.{drop, ltb, eqb}
 use Rattle.rules.specs.Table.{State, state}
 use Rattle.rules.specs.Steps.{step, collecting, code_of, node_of}
 use Rattle.rules.specs.Schedules.{Followed, followed, schedule, collects}
