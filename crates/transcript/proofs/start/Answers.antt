@@ -1,0 +1,7 @@
+-- The record that is made is the one of the definition.
+use mathlib.Core.Path.{refl}
+use borrow.Author.Rules.{rules}
+use Rattle.transcript.proofs.start.Goals as goal
+
+pub returns : goal.returns
+returns c = rw c.fresh-rec.ensures refl
