@@ -6,7 +6,8 @@ use mathlib.Core.Path.{◌≡◌, refl, sym, subst, ◌∙◌}
 use Rattle.base.specs.Choice.{pick}
 use Rattle.base.proofs.Tests.{split}
 use Rattle.rules.specs.Table.{State, Outcome, outcome, FREE, unless}
-use Rattle.rules.specs.Records.{with_owed, with_last, with_free, less_free, owing, paid, after_append}
+use Rattle.rules.specs.Records.{with_owed, with_last, with_free, less_free, owing, paid}
+use Rattle.rules.specs.Records.{after_append}
 use Rattle.rules.specs.Places.{arrive}
 use Rattle.rules.specs.Editor.{depart, link_to, link, pay, shade_owed, take_next, take_first, take}
 use Rattle.rules.specs.Steps.{step, linking, shading, taking, collecting}

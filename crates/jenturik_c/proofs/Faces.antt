@@ -70,7 +70,8 @@ module _ (l r c w : List ℕ) where
   faces_count x h e f n q = pick_yes _ _ _ _ h (rw (← e) q)
 
   pub faces_last : (x : Record) (n : ℕ) (a : Answer) (t : Answered) → true ≡ is_record w
-      → x ≡ record_of w → a ≡ last_answer n (state l r c x) → t ≡ told_of a → t ≡ last_told n l r c w
+      → x ≡ record_of w → a ≡ last_answer n (state l r c x) → t ≡ told_of a
+      → t ≡ last_told n l r c w
   unfolding last_told
   faces_last x n a t h e q k = pick_yes _ _ _ _ h (rw (← e, ← q, k))
 

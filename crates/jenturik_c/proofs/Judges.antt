@@ -121,11 +121,13 @@ module _ (l r c w : List ℕ) (code : ℕ)
         go false q = e
 
     -- the same of n collector steps
-    pub refuses_run : (k : ℕ) → faced_run 0 code 0 l r c w ≡ face_run (schedule (collects k)) l r c w
+    pub refuses_run : (k : ℕ)
+        → faced_run 0 code 0 l r c w ≡ face_run (schedule (collects k)) l r c w
     unfolding judged face_run pick
     refuses_run k = go (is_record w) refl j
       where
-        go : (b : Bool) → is_record w ≡ b → code ≡ pick b (check here) 2 → faced_run 0 code 0 l r c w
+        go : (b : Bool) → is_record w ≡ b → code ≡ pick b (check here) 2
+            → faced_run 0 code 0 l r c w
             ≡ pick b (shown_run (schedule (collects k) here)) (faced_run 0 2 0 l r c w)
         go true h q = rw (← (unscheduled k code here q n).0, words_back w (sym h)) refl
         go false h q = rw q refl

@@ -74,7 +74,8 @@ no_record = answered 0 2 0 0
 
 -- [C 1] the call f, where the words are a record's; [C 4] else nothing changes
 unfoldable pub face : (State → Outcome) → List ℕ → List ℕ → List ℕ → List ℕ → Faced
-face f l r c w = pick (is_record w) (shown (f (state l r c (record_of w)))) (faced no_record l r c w)
+face f l r c w =
+    pick (is_record w) (shown (f (state l r c (record_of w)))) (faced no_record l r c w)
 
 -- [In use 3] a call that only answers: the state stays
 abbrev pub asking : (State → Answer) → State → Outcome

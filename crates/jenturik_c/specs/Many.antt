@@ -58,7 +58,8 @@ abbrev pub last_of : Last → Answered
 last_of r = answered r.what (code_in r.code) (detail_in r.code) r.node
 
 unfoldable pub last_told : ℕ → List ℕ → List ℕ → List ℕ → List ℕ → Answered
-last_told n l r c w = pick (is_record w) (told_of (last_answer n (state l r c (record_of w)))) no_record
+last_told n l r c w =
+    pick (is_record w) (told_of (last_answer n (state l r c (record_of w)))) no_record
 
 -- [C 14] the nodes that the run f appends: none where the words are no record's
 unfoldable pub face_nodes : (State → List ℕ) → List ℕ → List ℕ → List ℕ → List ℕ → List ℕ
