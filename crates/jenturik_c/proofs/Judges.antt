@@ -8,7 +8,7 @@ use native.Mathlib.Omega.{arith}
 use lib.ListN.{length}
 use Rattle.base.specs.Choice.{pick}
 use Rattle.base.proofs.Tests.{first_here, pick_no, eq_no, split}
-use Rattle.rules.specs.Table.{State, Outcome, state, outcome, did, refuse, refused}
+use Rattle.rules.specs.Table.{State, Outcome, state, did, refuse, refused}
 use Rattle.rules.specs.Check.{check_of, check}
 use Rattle.rules.specs.FreeCount.{free_count}
 use Rattle.rules.specs.Schedules.{schedule, collects}

@@ -25,11 +25,10 @@ use Rattle.batch.specs.Last.{answering, last_answer}
 use Rattle.batch.proofs.Small.{last_small}
 use Rattle.record_words.specs.Words.{words_of, record_of, is_record}
 use Rattle.record_words.proofs.RoundTrip.{words_back}
-use Rattle.jenturik_c.specs.Face.{Answered, Faced, faced, face, face_count, answered_of, told_of}
+use Rattle.jenturik_c.specs.Face.{Answered, Faced, faced, face, face_count, told_of}
 use Rattle.jenturik_c.specs.Face.{shown, fitted}
 use Rattle.jenturik_c.specs.Many.{FacedRun, faced_run, shown_run, face_run, code_in, detail_in}
 use Rattle.jenturik_c.specs.Many.{last_of, last_told}
-use Rattle.jenturik_c.specs.declared.Told.{Told}
 use Rattle.jenturik_c.specs.declared.Last.{Last}
 
 -- the words of the record that a refused step hands back are those that were given

@@ -1,12 +1,8 @@
 -- At the loop's test the run stands as `schedule/proofs/Loop.antt` says; a turn gives it the step
 -- that stands at its place among the words, and at its end the run has followed them all.
-use Prim.Native.Nat.{◌-◌}
-use mathlib.Core.Path.{◌≡◌, refl}
-use lib.ListN.{length}
+use mathlib.Core.Path.{refl}
 use native.Mathlib.Omega.{arith}
-use borrow.Author.Rules.{rules}
-use Rattle.rules.specs.Table.{state}
-use Rattle.jenturik_c.proofs.Flats.{Stands, starts, can_go, fits, goes_on, ends}
+use Rattle.jenturik_c.proofs.Flats.{starts, can_go, fits, goes_on, ends}
 use Rattle.jenturik_c.proofs.follow.Goals as goal
 
 pub loop-g-init : goal.loop-g-init

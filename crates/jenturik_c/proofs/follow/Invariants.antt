@@ -1,12 +1,10 @@
 -- At the loop's test the run stands as `schedule/proofs/Loop.antt` says; a turn gives it the step
 -- that stands at its place among the words, and at its end the run has followed them all.
 use Prim.Native.Nat.{◌-◌}
-use mathlib.Core.Path.{◌≡◌, refl}
+use mathlib.Core.Path.{◌≡◌}
 use lib.ListN.{length}
-use native.Mathlib.Omega.{arith}
-use borrow.Author.Rules.{rules}
 use Rattle.rules.specs.Table.{state}
-use Rattle.jenturik_c.proofs.Flats.{Stands, starts, can_go, fits, goes_on, ends}
+use Rattle.jenturik_c.proofs.Flats.{Stands}
 use Rattle.jenturik_c.proofs.follow.Given as goal
 
 abbrev pub invariant-loop-g : goal.invariant-loop-g

@@ -1,7 +1,6 @@
 -- The phase is the record's, so its step is the collector's: its contract is the face's. A refused
 -- step leaves the record, whose words are those that stand there; else they are written.
 use mathlib.Core.Path.{ap, ◌∙◌}
-use borrow.Author.Rules.{rules}
 use Rattle.rules.specs.Collector.{phase_step}
 use Rattle.rules.specs.Steps.{collecting}
 use Rattle.rules.proofs.Checked.{good, inside}

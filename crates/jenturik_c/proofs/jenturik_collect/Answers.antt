@@ -1,7 +1,6 @@
 -- A code that the words are given refuses the call. Else the words are those of a record that
 -- passes, and `any_phase` makes the step.
 use mathlib.Core.Path.{ap, ◌∙◌}
-use borrow.Author.Rules.{rules}
 use Rattle.jenturik_c.specs.Face.{told_of}
 use Rattle.jenturik_c.proofs.Judges.{a_record, passes, refuses, refuses_count}
 use Rattle.jenturik_c.proofs.Judges.{collect_refuses}

@@ -1,10 +1,9 @@
 -- Words that are no record's are refused with 2. Else the steps are made over the record that the
 -- words are: their facts are the face's, and the record's words are written back.
-use mathlib.Core.Path.{refl, ap, ◌∙◌}
+use mathlib.Core.Path.{refl, ap, sym, ◌∙◌}
 use mathlib.Core.List.{List}
 use Prim.Native.Nat.{ℕ}
 use lib.ListN.{length}
-use Rattle.base.proofs.Tests.{not_no, not_yes}
 use Rattle.freed.specs.Freed.{noted}
 use Rattle.jenturik_c.proofs.Faces.{spurned_run, spurned_count, spurned_list, spurned_freed}
 use Rattle.jenturik_c.proofs.Faces.{faces_run, faces_count, faces_nodes}
@@ -13,7 +12,7 @@ use Rattle.jenturik_c.proofs.jenturik_collect_freed.Goals as goal
 
 pub returns-then-not-is_record : goal.returns-then-not-is_record
 returns-then-not-is_record c =
-    let none = not_yes _ c.if-not-is_record.true-raw ∙ c.is_record.ensures in
+    let none = sym c.if-not-is_record.true ∙ c.is_record.ensures in
     record {
       words_value = spurned_run _ _ _ _ none _;
       stays = λ h. h;
@@ -23,11 +22,11 @@ returns-then-not-is_record c =
     }
 
 pub record_of-requires : goal.record_of-requires
-record_of-requires c = not_no _ c.if-not-is_record.false-raw ∙ c.is_record.ensures
+record_of-requires c = sym c.if-not-is_record.false ∙ c.is_record.ensures
 
 pub returns : goal.returns
 returns c =
-    let a_record = not_no _ c.if-not-is_record.false-raw ∙ c.is_record.ensures in
+    let a_record = sym c.if-not-is_record.false ∙ c.is_record.ensures in
     let same = c.record_of.ensures in
     let all = c.collect_freed-all.ensures in
     let written = c.words_of-v.ensures in

@@ -1,8 +1,7 @@
 -- A code that the words are given refuses the call. Else the words are those of a record that
 -- passes. If n is 1, what one step tells is what many tell. Else the batch is made over the record:
 -- its facts are the face's, and the record's words are written back.
-use mathlib.Core.Path.{refl, sym, ap, ◌∙◌}
-use borrow.Author.Rules.{rules}
+use mathlib.Core.Path.{refl, ap, ◌∙◌}
 use native.Mathlib.Omega.{arith}
 use Rattle.rules.proofs.Checked.{good}
 use Rattle.batch.proofs.Last.{scheduled}

@@ -1,7 +1,6 @@
 -- A code that the words are given refuses the call. Else the count of the record that the words are
 -- is answered; the state stays, so that the words are the record's still.
 use mathlib.Core.Path.{refl, sym, ap, ◌∙◌}
-use borrow.Author.Rules.{rules}
 use Rattle.base.proofs.Tests.{pick_yes, eq_yes}
 use Rattle.rules.specs.FreeCount.{free_count}
 use Rattle.jenturik_c.specs.Face.{told_of}

@@ -1,9 +1,7 @@
 -- Words that are no record's are answered by `no_record`. Else the contract of In use over the
 -- record that the words are is the face's; it leaves the state, so that the words are the record's
 -- still.
-use mathlib.Core.Path.{◌∙◌}
-use borrow.Author.Rules.{rules}
-use Rattle.base.proofs.Tests.{not_no, not_yes}
+use mathlib.Core.Path.{sym, ◌∙◌}
 use Rattle.jenturik_c.proofs.Faces.{spurned}
 use Rattle.jenturik_c.proofs.Kept.{asked}
 use Rattle.jenturik_c.proofs.jenturik_in_use.Goals as goal
@@ -11,18 +9,18 @@ use Rattle.jenturik_c.proofs.jenturik_in_use.Goals as goal
 pub returns-then-not-is_record : goal.returns-then-not-is_record
 returns-then-not-is_record c = record {
   words_value =
-      spurned _ _ _ _ (not_yes _ c.if-not-is_record.true-raw ∙ c.is_record.ensures) _ _
+      spurned _ _ _ _ (sym c.if-not-is_record.true ∙ c.is_record.ensures) _ _
       c.no_record.ensures.result_value;
   changed_value = c.no_record.ensures.changed_value;
 }
 
 pub record_of-requires : goal.record_of-requires
-record_of-requires c = not_no _ c.if-not-is_record.false-raw ∙ c.is_record.ensures
+record_of-requires c = sym c.if-not-is_record.false ∙ c.is_record.ensures
 
 pub returns : goal.returns
 returns c = record {
   words_value =
-      asked _ _ _ _ (not_no _ c.if-not-is_record.false-raw ∙ c.is_record.ensures) _ _ _ _
+      asked _ _ _ _ (sym c.if-not-is_record.false ∙ c.is_record.ensures) _ _ _ _
       c.record_of.ensures c.in_use-answer.ensures c.tell.ensures.result_value;
   changed_value = c.tell.ensures.changed_value;
 }

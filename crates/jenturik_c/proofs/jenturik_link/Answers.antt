@@ -1,7 +1,6 @@
 -- A code that the words are given refuses the call. Else the step is made over the record that the
 -- words are, which passes: its contract is the face's, and the record's words are written back.
 use mathlib.Core.Path.{refl, ap, ◌∙◌}
-use borrow.Author.Rules.{rules}
 use Rattle.jenturik_c.specs.Face.{told_of}
 use Rattle.jenturik_c.proofs.Faces.{faces, faces_count}
 use Rattle.jenturik_c.proofs.Changed.{link_owed}

@@ -1,7 +1,6 @@
 -- A code that the words are given refuses the call. Else the contract of Look over the record that
 -- the words are is the face's; it leaves the state, so that the words are the record's still.
 use mathlib.Core.Path.{ap, ◌∙◌}
-use borrow.Author.Rules.{rules}
 use Rattle.jenturik_c.specs.Face.{told_of}
 use Rattle.jenturik_c.proofs.Faces.{faces_count}
 use Rattle.jenturik_c.proofs.Kept.{looked}

@@ -1,8 +1,6 @@
 -- Words that are no record's are refused with 2. Else the schedule is made over the record that the
 -- words are: its contract is the face's, and the record's words are written back.
-use mathlib.Core.Path.{refl, ap, ◌∙◌}
-use borrow.Author.Rules.{rules}
-use Rattle.base.proofs.Tests.{not_no, not_yes}
+use mathlib.Core.Path.{refl, ap, sym, ◌∙◌}
 use Rattle.jenturik_c.proofs.Faces.{spurned_run, spurned_count, faces_run}
 use Rattle.jenturik_c.proofs.Faces.{faces_count}
 use Rattle.jenturik_c.specs.Face.{fitted}
@@ -10,7 +8,7 @@ use Rattle.jenturik_c.proofs.jenturik_schedule.Goals as goal
 
 pub returns-then-not-is_record : goal.returns-then-not-is_record
 returns-then-not-is_record c =
-    let none = not_yes _ c.if-not-is_record.true-raw ∙ c.is_record.ensures in
+    let none = sym c.if-not-is_record.true ∙ c.is_record.ensures in
     record {
       words_value = spurned_run _ _ _ _ none _;
       stays = λ h. h;
@@ -18,14 +16,14 @@ returns-then-not-is_record c =
     }
 
 pub record_of-requires : goal.record_of-requires
-record_of-requires c = not_no _ c.if-not-is_record.false-raw ∙ c.is_record.ensures
+record_of-requires c = sym c.if-not-is_record.false ∙ c.is_record.ensures
 
 pub put-requires : goal.put-requires
-put-requires c = not_no _ c.if-not-is_record.false-raw ∙ c.is_record.ensures
+put-requires c = sym c.if-not-is_record.false ∙ c.is_record.ensures
 
 pub returns : goal.returns
 returns c =
-    let a_record = not_no _ c.if-not-is_record.false-raw ∙ c.is_record.ensures in
+    let a_record = sym c.if-not-is_record.false ∙ c.is_record.ensures in
     let same = c.record_of.ensures in
     let done = c.schedule_of-ran.ensures in
     let written = c.put.ensures in

@@ -1,6 +1,5 @@
 -- The fields are the told ones in narrower types, and the code and the detail share a byte.
 use mathlib.Core.Path.{refl}
-use borrow.Author.Rules.{rules}
 use Rattle.jenturik_c.proofs.last_of.Goals as goal
 
 pub returns : goal.returns

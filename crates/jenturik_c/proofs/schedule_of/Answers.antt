@@ -1,7 +1,6 @@
 -- Where words are left over, the definition asks for what `unreadable` answers; else it is the
 -- schedule that `follow` makes.
 use mathlib.Core.Path.{refl}
-use borrow.Author.Rules.{rules}
 use Rattle.base.proofs.Tests.{pick_yes, pick_no, eq_yes, eq_no}
 use Rattle.calls.specs.Unreadable.{unreadable}
 use Rattle.jenturik_c.specs.Flat.{schedule_of, changes_of}
