@@ -25,7 +25,8 @@ pub whole_words : (w : List ℕ) → length w ≡ WORDS → part w 0 WORDS ≡ w
 whole_words w e =
     sym (parts w WORDS 0 (omega (arith, e))) ∙ take_all WORDS w (omega (arith, e))
 
-pub record_words_first : (w : List ℕ) → length w ≡ WORDS → part w 0 record-words.WORDS ≡ record_part w
+pub record_words_first : (w : List ℕ) → length w ≡ WORDS → part w 0 record-words.WORDS
+    ≡ record_part w
 record_words_first w e = sym (parts w record-words.WORDS 0 (omega (arith, e)))
 
 pub laid : (v : List ℕ) (tag m n at : ℕ) → length v ≡ record-words.WORDS

@@ -131,13 +131,15 @@ words_back w e =
     let z = each _ (sym t.1.1.1.1.1.1.0) in
     let s = stage_there (word w STAGE) (word w TABLE) (word w ENTRY) tag m n in
     let size : length w ≡ WORDS = eqb-true _ _ t.0 in
-    let r = record-back-words (record_part w) (record_in_lem w e) ∙ sym (record_words_first w size) in
+    let r = record-back-words (record_part w) (record_in_lem w e)
+    ∙ sym (record_words_first w size) in
     let z0 : word w 28 ≡ 0 = eqb-true _ _ z.0 in
     let z1 : word w 29 ≡ 0 = eqb-true _ _ z.1.0 in
     let z2 : word w 30 ≡ 0 = eqb-true _ _ z.1.1.0 in
     let z3 : word w 31 ≡ 0 = eqb-true _ _ z.1.1.1.0 in
     let st = stage_of (word w STAGE) (word w TABLE) (word w ENTRY) in
-    let same : laid_out (part w 0 record-words.WORDS) (tag_of st) (held st) (entry_of st) (word w AT)
+    let same : laid_out (part w 0 record-words.WORDS) (tag_of st) (held st) (entry_of st)
+    (word w AT)
     ≡ part w 0 WORDS = rw (s.tag_is, s.table_is, s.entry_is, z0, z1, z2, z3) in
     ap (λ (v : List ℕ). laid_out v (tag_of st) (held st) (entry_of st) (word w AT)) r ∙ same
     ∙ whole_words w size
@@ -147,8 +149,10 @@ unfolding is_record within flagged pick every
 no_record_lem = refl
 
 -- [Text 6] words that are all 0 are the start of a run
-pub start_words : (session_of (replicate WORDS 0) ≡ started) × (true ≡ is_session (replicate WORDS 0))
+pub start_words : (session_of (replicate WORDS 0) ≡ started) ×
+    (true ≡ is_session (replicate WORDS 0))
 start_words = (
   session_back Opening (fresh_record 0 0 0 0) 0,
-  is_session_lem Opening (fresh_record 0 0 0 0) 0 no_record_lem (omega arith) (omega arith) (omega arith),
+  is_session_lem Opening (fresh_record 0 0 0 0) 0 no_record_lem (omega arith) (omega arith)
+      (omega arith),
 )

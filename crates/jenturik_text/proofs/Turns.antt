@@ -135,5 +135,6 @@ pub spurns : (w l k c ls rs line out input : List ℕ) (t : Turned) (code : ℕ)
 unfolding turns session_of
 spurns w l k c ls rs line out input t code e z u =
     pick_no _ _ _ _ (code_no code _ 0 e z)
-    (ap (λ (a : Answered). left_of a w (stand (printing (session_of w) a.used) l k c ls rs line out))
+    (ap (λ (a : Answered). left_of a w
+    (stand (printing (session_of w) a.used) l k c ls rs line out))
     u ∙ ap (λ (n : ℕ). spurned n w (stand (session_of w) l k c ls rs line out)) e)

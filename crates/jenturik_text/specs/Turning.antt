@@ -76,11 +76,13 @@ turns w l k c ls rs line out input =
     pick (eqb code 0) (done (turn (length input) input s)) (spurned code w s)
 
 -- the slices as they are, and as they were
-abbrev pub leaves : Turned → List ℕ → List ℕ → List ℕ → List ℕ → List ℕ → List ℕ → List ℕ → List ℕ → Left
+abbrev pub leaves : Turned → List ℕ → List ℕ → List ℕ → List ℕ → List ℕ → List ℕ → List ℕ → List ℕ
+    → Left
 leaves t words l k c ls rs line out =
     left t words l k c ls rs line out
 
-abbrev pub turning : List ℕ → List ℕ → List ℕ → List ℕ → List ℕ → List ℕ → List ℕ → List ℕ → List ℕ → Left
+abbrev pub turning : List ℕ → List ℕ → List ℕ → List ℕ → List ℕ → List ℕ → List ℕ → List ℕ → List ℕ
+    → Left
 turning words l k c ls rs line out input =
     turns words l k c ls rs line out input
 

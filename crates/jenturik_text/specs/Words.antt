@@ -85,7 +85,8 @@ all_zero a b c d = every (eqb a 0 ∷ eqb b 0 ∷ eqb c 0 ∷ eqb d 0 ∷ [])
 unfoldable pub is_session : List ℕ → Bool
 is_session w =
     every (eqb (length w) WORDS ∷ is_record (record_part w) ∷ leb (word w STAGE) 5 ∷ leb
-    (word w TABLE) (most_table (word w STAGE)) ∷ leb (word w ENTRY) (most_entry (word w STAGE)) ∷ leb
+    (word w TABLE) (most_table (word w STAGE)) ∷ leb (word w ENTRY) (most_entry (word w STAGE)) ∷
+    leb
     (word w AT) keeps ∷ all_zero (word w 28) (word w 29) (word w 30) (word w 31) ∷ [])
 
 -- the numbers of a session that words have room for
