@@ -8,7 +8,7 @@ use lib.ListN.{length, take}
 use lib.Dec.{ltb}
 use borrow.Author.Tests.{ltb-true, ltb-false, leb-true}
 use Rattle.base.proofs.Tests.{each, split}
-use Rattle.rules.specs.Table.{State, Outcome, most_nodes}
+use Rattle.rules.specs.Table.{Outcome, most_nodes}
 use Rattle.rules.specs.Check.{size_ok}
 use Rattle.rules.specs.Fresh.{fresh, fresh_state}
 use Rattle.text.specs.Grammar.{read}
@@ -19,8 +19,8 @@ use Rattle.text.specs.declared.Listed.{Listed}
 use Rattle.text.specs.declared.Listed.TheVariants.{Edges, Stray}
 use Rattle.text.proofs.Outputs.{put_full, put_longer}
 use Rattle.lines.specs.Lines.{Line, opened}
-use Rattle.session.specs.Feeding.{newline, keeps, fold, Going, ended, Stand, moved, begun, stopped}
-use Rattle.session.specs.Feeding.{filled, noting, line_ended, is_over, eaten, eats, emptied, block}
+use Rattle.session.specs.Feeding.{newline, keeps, fold, ended, Stand, moved, begun, stopped}
+use Rattle.session.specs.Feeding.{filled, noting, line_ended, eaten, eats, emptied, block}
 use Rattle.session.specs.Feeding.{closed, finish, turn}
 use Rattle.session.specs.declared.Stage.{Stage}
 use Rattle.session.specs.declared.Stage.TheVariants.{Opening, Second, Loading, Serving}

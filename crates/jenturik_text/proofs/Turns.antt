@@ -1,6 +1,6 @@
 -- How a call over words is made of the call over the session.
 use Prim.Native.Nat.{ℕ, ◌≤◌}
-use mathlib.Core.Bool.{Bool, true, false, true≢false, false≢true}
+use mathlib.Core.Bool.{Bool, true, false}
 use mathlib.Core.List.{List}
 use mathlib.Core.Path.{◌≡◌, refl, sym, ap, subst, ◌∙◌}
 use native.Mathlib.Omega.{arith}
@@ -11,7 +11,7 @@ use Rattle.base.specs.Choice.{pick}
 use Rattle.base.proofs.Tests.{each, split, code_yes, code_no, pick_yes, pick_no}
 use Rattle.record_words.specs.Words.{word, record_of}
 use Rattle.record_words.proofs.Widths.{widths}
-use Rattle.session.specs.Feeding.{keeps, held, Stand, standing, stand, turn}
+use Rattle.session.specs.Feeding.{keeps, held, standing, stand, turn}
 use Rattle.session.specs.declared.Session.{Session}
 use Rattle.session.specs.declared.Stage.{Stage}
 use Rattle.session.specs.declared.Stage.TheVariants.{Opening, Second, Loading, Serving}
@@ -19,7 +19,7 @@ use Rattle.session.specs.declared.Stage.TheVariants.{Over, Stopped}
 use Rattle.jenturik_text.specs.declared.Turned.{Turned}
 use Rattle.jenturik_text.specs.Words.{entry_of, words_of, record_part, stage_of, session_of}
 use Rattle.jenturik_text.specs.Words.{most_table, most_entry, is_session, Fits}
-use Rattle.jenturik_text.specs.Words.{STAGE, TABLE, ENTRY, AT}
+use Rattle.jenturik_text.specs.Words.{STAGE, TABLE, ENTRY}
 use Rattle.jenturik_text.specs.Turning.{over_of, judged, Answered, answered, answered_of}
 use Rattle.jenturik_text.specs.Turning.{left_of, printing, left, done, spurned, turns}
 use Rattle.jenturik_text.proofs.Sessions.{session_back, record_in_lem}

@@ -2,7 +2,7 @@
 -- docs/RULES.md.
 use Rattle.base.specs.Choice.{pick}
 use Rattle.std.specs.Prelude.{ℕ, true, List, ◌≡◌, eqb, length}
-use Rattle.session.specs.Feeding.{keeps, Stand, standing, stand, turn}
+use Rattle.session.specs.Feeding.{keeps, Stand, stand, turn}
 use Rattle.session.specs.declared.Session.{Session}
 use Rattle.session.specs.declared.Stage.{Stage}
 use Rattle.session.specs.declared.Stage.TheVariants.{Opening, Second, Loading, Serving}

@@ -1,7 +1,6 @@
 -- `entry_of` meets its contract: the part of the line that is lent is its first bytes.
 use native.Mathlib.Nat.{sub-zero}
 use Rattle.session.proofs.Parts.{front}
-use borrow.Author.Rules.{rules}
 use Rattle.export.proofs.entry_of.Goals as goal
 
 pub returns : goal.returns

@@ -1,6 +1,5 @@
 -- `fill` meets its contract: the answer's code decides the stage, in `filled` as in the code.
 use Rattle.export.proofs.Filled.{filled_so}
-use borrow.Author.Rules.{rules}
 use Rattle.export.proofs.fill.Goals as goal
 
 pub returns : goal.returns

@@ -1,7 +1,6 @@
 -- `keep` meets its contract: an entry that the list has not is not set.
 use mathlib.Core.Path.{sym}
 use lib.Seq.{set_out}
-use borrow.Author.Rules.{rules}
 use Rattle.export.proofs.keep.Goals as goal
 
 pub returns-else-n-list : goal.returns-else-n-list

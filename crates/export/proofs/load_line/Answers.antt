@@ -3,7 +3,6 @@ use mathlib.Core.Path.{sym, ◌∙◌}
 use native.Mathlib.Omega.{arith}
 use Rattle.session.specs.Feeding.{noting}
 use Rattle.export.proofs.Filled.{noted_more, noted_last}
-use borrow.Author.Rules.{rules}
 use Rattle.export.proofs.load_line.Goals as goal
 
 pub overflow_add-stage : goal.overflow_add-stage

@@ -3,7 +3,6 @@
 use native.Mathlib.Omega.{arith}
 use Rattle.session.proofs.Parts.{lent}
 use Rattle.export.proofs.Filled.{replaced}
-use borrow.Author.Rules.{rules}
 use Rattle.export.proofs.load_part.Goals as goal
 
 pub returns : goal.returns

@@ -5,7 +5,6 @@ use mathlib.Core.Path.{◌≡◌}
 use native.Mathlib.Omega.{arith}
 use lib.Dec.{ltb}
 use Rattle.base.proofs.Tests.{lt_yes, lt_no}
-use borrow.Author.Rules.{rules}
 use Rattle.export.proofs.more.Goals as goal
 
 none : (m n : ℕ) → m ≤ n + 1 → (false ≡ ltb (n + 1) m) × (false ≡ true → n < 65535)

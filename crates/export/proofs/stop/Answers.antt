@@ -1,6 +1,5 @@
 -- `stop` meets its contract: the answer is put into the output.
 use Rattle.session.specs.Feeding.{standing, stopped}
-use borrow.Author.Rules.{rules}
 use Rattle.export.proofs.stop.Goals as goal
 
 pub returns : goal.returns

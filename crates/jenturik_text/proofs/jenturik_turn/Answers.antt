@@ -1,6 +1,5 @@
 -- Words that are no session's are answered by `refused`. Else the block is answered over the session
 -- that the words are, and what it leaves has its widths.
-use borrow.Author.Rules.{rules}
 use Rattle.jenturik_text.proofs.Turns.{spurns, accepted, fits_after, turns_so}
 use Rattle.jenturik_text.proofs.jenturik_turn.Goals as goal
 

@@ -3,7 +3,6 @@ use mathlib.Core.List.{List}
 use mathlib.Core.Path.{◌≡◌, sym, subst}
 use mathlib.Core.Bool.{true}
 use Prim.Native.Nat.{ℕ}
-use borrow.Author.Rules.{rules}
 use Rattle.record_words.specs.Words.{is_record}
 use Rattle.jenturik_text.specs.Words.{session_of}
 use Rattle.jenturik_text.proofs.Sessions.{record_in_lem}

@@ -1,5 +1,4 @@
 -- The stage's number is what `over` answers.
-use borrow.Author.Rules.{rules}
 use Rattle.jenturik_text.proofs.told.Goals as goal
 
 pub returns : goal.returns

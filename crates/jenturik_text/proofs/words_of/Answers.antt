@@ -1,5 +1,4 @@
 -- What is left of a session has its widths; the record's words are a record's.
-use borrow.Author.Rules.{rules}
 use native.Mathlib.Omega.{arith}
 use Rattle.jenturik_text.proofs.Sessions.{words_are}
 use Rattle.jenturik_text.proofs.words_of.Goals as goal

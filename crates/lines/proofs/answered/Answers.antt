@@ -1,5 +1,4 @@
 -- The answer's code and node are the methods' contracts; the record is the one handed over.
-use borrow.Author.Rules.{rules}
 use Rattle.lines.proofs.answered.Goals as goal
 
 pub returns : goal.returns

@@ -2,7 +2,6 @@
 -- all are passed `start` is what it says.
 use Rattle.base.proofs.Tests.{pick_yes, pick_no, every_here, every_skip, every_last, le_yes, le_no}
 use Rattle.lines.specs.Lines.{opened}
-use borrow.Author.Rules.{rules}
 use Rattle.lines.proofs.begin.Goals as goal
 
 pub returns-then-left-nodes : goal.returns-then-left-nodes

@@ -1,6 +1,5 @@
 -- A count of 0 is the empty schedule, which judges codes 1 and 2; any other count is what
 -- `collect_some` promises.
-use borrow.Author.Rules.{rules}
 use Rattle.lines.proofs.Collects.{nothing}
 use Rattle.lines.proofs.collect.Goals as goal
 

@@ -1,6 +1,5 @@
 -- The batch's contract is the schedule of n collector steps; its answer's code and detail are the
 -- schedule's.
-use borrow.Author.Rules.{rules}
 use Rattle.lines.proofs.collect_many.Goals as goal
 
 pub returns : goal.returns

@@ -1,8 +1,6 @@
 -- All steps but the last, then the last, are the schedule of all; where the first part is refused,
 -- nothing follows, as in the definition.
 use native.Mathlib.Omega.{arith}
-use borrow.Author.Rules.{rules}
-use Rattle.rules.specs.Phases.{position}
 use Rattle.lines.proofs.Collects.{most, stopped, last}
 use Rattle.lines.proofs.collect_some.Goals as goal
 

@@ -1,6 +1,5 @@
 -- `first` meets its contract: `opened` goes by what the line says, as the code does.
 use Rattle.lines.specs.Lines.{opened}
-use borrow.Author.Rules.{rules}
 use Rattle.lines.proofs.first.Goals as goal
 
 pub returns-in-First : goal.returns-in-First

@@ -1,6 +1,5 @@
 -- What the line says decides, by the definition's cases, and each case is one call's contract.
-use borrow.Author.Rules.{rules}
-use Rattle.lines.specs.Lines.{answered, later}
+use Rattle.lines.specs.Lines.{later}
 use Rattle.lines.proofs.later.Goals as goal
 
 pub returns-in-Do : goal.returns-in-Do

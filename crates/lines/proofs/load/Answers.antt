@@ -1,5 +1,4 @@
 -- `load` meets its contract: it is what Load answers.
-use borrow.Author.Rules.{rules}
 use Rattle.lines.specs.Lines.{loaded}
 use Rattle.lines.proofs.load.Goals as goal
 

@@ -1,5 +1,4 @@
 -- The record is the one that Fresh hands back where it refuses.
-use borrow.Author.Rules.{rules}
 use Rattle.lines.proofs.refused.Goals as goal
 
 pub returns : goal.returns

@@ -1,7 +1,6 @@
 -- `start` meets its contract: Fresh makes the table in the parts that are lent, and what lies
 -- behind them is as it was.
 use native.Mathlib.Nat.{sub-zero}
-use borrow.Author.Rules.{rules}
 use Rattle.lines.proofs.start.Goals as goal
 
 pub returns : goal.returns

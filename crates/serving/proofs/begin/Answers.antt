@@ -2,7 +2,6 @@
 use native.Mathlib.Nat.{sub-zero}
 use Rattle.session.proofs.Parts.{front}
 use Rattle.serving.proofs.Served.{begun_so}
-use borrow.Author.Rules.{rules}
 use Rattle.serving.proofs.begin.Goals as goal
 
 pub returns : goal.returns

@@ -1,6 +1,5 @@
 -- The line at hand is answered by `later_of`, its answer is put by `say`, and the next line begins
 -- empty: the definition's three parts.
-use borrow.Author.Rules.{rules}
 use Rattle.session.specs.Feeding.{ended}
 use Rattle.serving.specs.Serving.{going}
 use Rattle.serving.proofs.ended.Goals as goal

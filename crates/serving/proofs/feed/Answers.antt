@@ -1,11 +1,9 @@
 -- `feed` meets its contract: what the bytes from the next position on make of where the lines stand
 -- is the same after each turn.
-use Prim.Native.Nat.{◌-◌}
-use mathlib.Core.Path.{◌≡◌, refl, ◌∙◌}
-use lib.ListN.{length, drop, drop_of_length-le}
+use mathlib.Core.Path.{refl, ◌∙◌}
+use lib.ListN.{drop_of_length-le}
 use native.Mathlib.Omega.{arith}
 use Rattle.session.specs.Feeding.{fold}
-use Rattle.serving.specs.Serving.{going, next_byte}
 use Rattle.serving.proofs.Turns.{line_gains, line_turn}
 use Rattle.serving.proofs.feed.Goals as goal
 

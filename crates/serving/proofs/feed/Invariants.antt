@@ -1,12 +1,10 @@
 -- `feed` meets its contract: what the bytes from the next position on make of where the lines stand
 -- is the same after each turn.
 use Prim.Native.Nat.{◌-◌}
-use mathlib.Core.Path.{◌≡◌, refl, ◌∙◌}
-use lib.ListN.{length, drop, drop_of_length-le}
-use native.Mathlib.Omega.{arith}
+use mathlib.Core.Path.{◌≡◌}
+use lib.ListN.{length, drop}
 use Rattle.session.specs.Feeding.{fold}
 use Rattle.serving.specs.Serving.{going, next_byte}
-use Rattle.serving.proofs.Turns.{line_gains, line_turn}
 use Rattle.serving.proofs.feed.Given as goal
 
 abbrev pub invariant-loop-next : goal.invariant-loop-next

@@ -2,7 +2,6 @@
 -- them.
 use native.Mathlib.Nat.{sub-zero}
 use Rattle.session.proofs.Parts.{front}
-use borrow.Author.Rules.{rules}
 use Rattle.serving.proofs.later_of.Goals as goal
 
 pub returns : goal.returns

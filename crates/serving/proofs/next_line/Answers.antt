@@ -2,9 +2,7 @@
 -- definition does for the bytes one by one.
 use mathlib.Core.Path.{refl}
 use native.Mathlib.Omega.{arith}
-use borrow.Author.Rules.{rules}
 use Rattle.base.proofs.Tests.{pick_yes, pick_no, lt_yes, lt_no}
-use Rattle.session.specs.Feeding.{ended}
 use Rattle.session.proofs.Feeds.{found}
 use Rattle.serving.specs.Serving.{going, next_line}
 use Rattle.serving.proofs.next_line.Goals as goal

@@ -3,7 +3,6 @@
 use native.Mathlib.Omega.{arith}
 use Rattle.session.proofs.Parts.{lent}
 use Rattle.serving.proofs.Served.{served}
-use borrow.Author.Rules.{rules}
 use Rattle.serving.proofs.serve.Goals as goal
 
 pub returns : goal.returns

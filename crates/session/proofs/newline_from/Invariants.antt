@@ -1,12 +1,9 @@
 -- Each turn passes one byte that is no newline, so the search from the next position finds the
 -- same.
 use Prim.Native.Nat.{◌-◌}
-use mathlib.Core.Path.{◌≡◌, refl, sym, ◌∙◌}
+use mathlib.Core.Path.{◌≡◌}
 use lib.ListN.{length, drop}
-use native.Mathlib.Omega.{arith}
-use Rattle.base.proofs.Tests.{pick_yes, pick_no, eq_yes, eq_no}
 use Rattle.session.specs.Feeding.{newline_from}
-use Rattle.session.proofs.Feeds.{newline_turn, newline_none}
 use Rattle.session.proofs.newline_from.Given as goal
 
 abbrev pub invariant-loop-at : goal.invariant-loop-at

@@ -1,5 +1,4 @@
 -- `bare` meets its contract: the same six cases.
-use borrow.Author.Rules.{rules}
 use Rattle.transcript.proofs.bare.Goals as goal
 
 pub returns-in-Second : goal.returns-in-Second

@@ -1,12 +1,9 @@
 -- `block` meets its contract: what the bytes from the next position on make of where the session
 -- stands is the same after each turn.
 use Prim.Native.Nat.{◌-◌}
-use mathlib.Core.Path.{◌≡◌, refl, ◌∙◌}
+use mathlib.Core.Path.{◌≡◌}
 use lib.ListN.{length, drop}
-use native.Mathlib.Omega.{arith}
-use borrow.Author.Rules.{rules}
 use Rattle.session.specs.Feeding.{fold, stand, eats}
-use Rattle.transcript.proofs.Stands.{blocks}
 use Rattle.transcript.proofs.block.Given as goal
 
 abbrev pub invariant-loop-next : goal.invariant-loop-next

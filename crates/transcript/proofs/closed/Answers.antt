@@ -1,6 +1,5 @@
 -- `closed` meets its contract: the same six cases.
 use Rattle.session.specs.Feeding.{standing, stopped}
-use borrow.Author.Rules.{rules}
 use Rattle.transcript.proofs.closed.Goals as goal
 
 pub returns-in-Opening : goal.returns-in-Opening

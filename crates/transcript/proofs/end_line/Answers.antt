@@ -1,7 +1,6 @@
 -- `end_line` meets its contract: a line of each form does at a newline what `line_ended` says.
 use mathlib.Core.Path.{sym, ◌∙◌}
 use Rattle.transcript.proofs.Stands.{leads_first, leads_entry, leads_step, leads_unread}
-use borrow.Author.Rules.{rules}
 use Rattle.transcript.proofs.end_line.Goals as goal
 
 pub returns-in-First : goal.returns-in-First

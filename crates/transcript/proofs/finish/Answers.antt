@@ -2,7 +2,6 @@
 -- complete ends the run.
 use mathlib.Core.Path.{sym, ◌∙◌}
 use Rattle.transcript.proofs.Stands.{stage_of_lem, finish_bare, finish_line}
-use borrow.Author.Rules.{rules}
 use Rattle.transcript.proofs.finish.Goals as goal
 
 pub returns-then-bare : goal.returns-then-bare

@@ -2,7 +2,6 @@
 use mathlib.Core.Path.{refl, sym, ◌∙◌}
 use Rattle.base.proofs.Tests.{pick_yes, pick_no}
 use Rattle.transcript.specs.Leads.{form_of}
-use borrow.Author.Rules.{rules}
 use Rattle.transcript.proofs.form_of.Goals as goal
 
 pub returns-then-is_export : goal.returns-then-is_export

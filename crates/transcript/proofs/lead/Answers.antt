@@ -4,7 +4,6 @@ use mathlib.Core.Path.{sym, ◌∙◌}
 use native.Mathlib.Omega.{arith}
 use Rattle.session.proofs.Feeds.{found, newline_at}
 use Rattle.transcript.proofs.Stands.{leads_over, leads_on, leads_rest}
-use borrow.Author.Rules.{rules}
 use Rattle.transcript.proofs.lead.Goals as goal
 
 pub returns-then-is_over : goal.returns-then-is_over

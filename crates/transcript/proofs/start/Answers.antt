@@ -1,6 +1,5 @@
 -- The record that is made is the one of the definition.
 use mathlib.Core.Path.{refl}
-use borrow.Author.Rules.{rules}
 use Rattle.transcript.proofs.start.Goals as goal
 
 pub returns : goal.returns

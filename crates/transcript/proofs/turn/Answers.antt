@@ -4,7 +4,6 @@ use native.Mathlib.Nat.{sub-zero}
 use Rattle.base.proofs.Tests.{pick_yes, pick_no, eq_yes, eq_no}
 use Rattle.session.specs.Feeding.{turn}
 use Rattle.session.proofs.Parts.{front}
-use borrow.Author.Rules.{rules}
 use Rattle.transcript.proofs.turn.Goals as goal
 
 pub returns-then-n-eq0 : goal.returns-then-n-eq0
