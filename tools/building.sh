@@ -34,7 +34,8 @@ sources() {
     mapfile -t folders < <(crates)
     {
         rt version
-        cd "$top/crates" && find "${folders[@]}" -name must-fail -prune -o -type f -print0 |
+        cd "$top/crates" &&
+            find "${folders[@]}" \( -name must-fail -o -name out \) -prune -o -type f -print0 |
             sort -z | xargs -0 sha256sum ../crates.txt
     } 2>/dev/null | sha256sum
 }
@@ -56,32 +57,33 @@ stop() {
     kill -s "$1" $$
 }
 
-# progress: keeps what rt says in the log and tells each crate that was proved
+# progress: keeps what rt says in the log and tells each crate that was proved or was not. rt begins
+# with the name of a crate that it proves, and ends with the verdict on it
 progress() {
-    local line name done=0 all
-    all=$(crates | wc -l)
+    local line name=
     while IFS= read -r line; do
         printf '%s\n' "$line" >&7
-        [[ $line =~ ^rt:\ ([a-z_]+)\ (NOT\ PROVED|proved\ \() ]] || continue
-        name=${BASH_REMATCH[1]}
-        done=$((done + 1))
         case $line in
-        *'proved (unchanged'*) ;;
-        *NOT*) echo "$me: $done of $all: $name is not proved" >&2 ;;
-        *) echo "$me: $done of $all: $name" >&2 ;;
+        'rt: chose --jobs '*' for '*) name=${line##* } ;;
+        logic=proved*) [ -z "$name" ] || echo "$me: $name is proved" >&2 ;;
+        logic=not-proved*) [ -z "$name" ] || echo "$me: $name is not proved" >&2 ;;
+        *) continue ;;
         esac
+        case $line in logic=*) name= ;; esac
     done
 }
 
-# build COMMAND..: runs a command that builds, with its own session, so that Ctrl-C can end all of
-# it. Its output goes to the log, and each crate that it proves is told
+# build FOLDER COMMAND..: runs a command that builds in a folder of the project, with its own
+# session, so that Ctrl-C can end all of it. It reads $input, if that is set. Its output goes to the
+# log, and each crate that it proves is told
 build() {
-    local signal
+    local signal folder=$1
+    shift
     { exec 7>>"$log"; } 2>/dev/null || refuse 2 "$log cannot be written"
     builder=
     # shellcheck disable=SC2064
     for signal in INT TERM HUP; do trap "stop $signal" "$signal"; done
-    exec 6< <(cd "$top" && exec setsid "$@" </dev/null 2>&1 7>&- 8>&-)
+    exec 6< <(cd "$top/$folder" && exec setsid "$@" <"${input:-/dev/null}" 2>&1 7>&- 8>&-)
     builder=$!
     progress <&6
     wait "$builder" || refuse 2 "the build failed; its log is $log"
