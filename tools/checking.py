@@ -8,8 +8,11 @@ usage: tools/checking.py words CRATE [--source]
 """
 import os
 import re
+import shutil
 import subprocess
 import sys
+import tempfile
+import time
 from pathlib import Path
 
 TOP = Path(__file__).resolve().parent.parent
@@ -17,8 +20,10 @@ TOP = Path(__file__).resolve().parent.parent
 ROOM = 3_000_000_000
 # what the check says where a proof's text no longer fits the code, whatever the code does
 SHAPE = re.compile(r'can be named from here|has no field|has no `|is not in scope|unknown name')
+# a file of a function's proof
+PROOF = re.compile(r'crates/(\w+)/proofs/(.+)/(?:Answers|Invariants|Proof)\.antt$')
 # what the check says of a thing that only rests on another that it refuses
-RESTS = re.compile(r'was not admitted')
+RESTS = re.compile(r'which was (not admitted|rejected)|which (is|are) not proved')
 
 
 def kit():
@@ -77,7 +82,7 @@ def at_once():
 
 
 def linked(known, to):
-    """Copies a folder of checked modules by links: a check replaces such files, and changes none."""
+    """Copies a folder of checked modules by links: a check replaces such files, changes none."""
     subprocess.run(['cp', '-rl', known, to], check=True)
 
 
@@ -88,6 +93,31 @@ def replaced(folder, changes):
         if text.count(old) != 1:
             raise ValueError(f'{file} has {text.count(old)} times: {old}')
         (folder / file).write_text(text.replace(old, new))
+
+
+def refusals(said, crate=''):
+    """What a check refuses of itself, and not for what it rests on: each place, with what is said.
+
+    A place is a function, as `rules::Record::next`, or a file of the project and what it declares,
+    as crates/rules/proofs/Sums.antt: `most_two`. In a check of one crate, in a copy of its folder,
+    the crate is told.
+    """
+    top, goal = f'crates/{crate}/' if crate else '', ''
+    for line in said.splitlines():
+        error = re.match(r'(?:\./)?([^ :]+):[0-9:]+ error: (?:(`[^`]*`): )?(.*)', line)
+        if error and not RESTS.search(error[3]):
+            at, name, why = f'{top}{error[1]}', error[2] or '', error[3]
+            of = PROOF.match(at)
+            place = f'{of[1]}::{of[2].replace("/", "::")}' if of else f'{at}: {name}'
+            yield place, f'{name} {why}'.strip()
+        # a goal that no file answers and that no tactic closes is told before its function
+        unproved = re.match(r'note: \S+:[0-9:]+ (it is not proved that .*)', line)
+        goal = unproved[1] if unproved else goal
+        function = re.match(r'fn (\S+): (?:no proof: (.*)|not proved(.*))', line)
+        if function and not RESTS.search(line) and (function[2] or goal):
+            yield function[1], function[2] or goal
+        if line.startswith('fn '):
+            goal = ''
 
 
 class Edit:
@@ -110,6 +140,169 @@ class Edit:
                 self.harmless.append((file, old, text))
             elif line and not line.startswith('#'):
                 raise ValueError(f'{path.name}: a line that is not read: {line}')
+
+
+class Crate:
+    """Checks of copies of a crate in which functions are edited.
+
+    They rest on the libraries below it, as `rt lib` keeps them in out/, and begin with the modules
+    that a check of the crate as it stands leaves in a folder of the room.
+    """
+
+    def __init__(self, name, room):
+        self.name, self.folder, self.known = name, TOP / 'crates' / name, Path(room) / name
+        self.command = [str(kit() / 'bin/rattle'), 'check', *words(name), '--jobs', '1']
+
+    def copied(self, copy, edits=()):
+        """A copy of the crate's texts, edited."""
+        for part in 'src', 'specs', 'proofs':
+            if (self.folder / part).is_dir():
+                shutil.copytree(self.folder / part, copy / part)
+        for edit in edits:
+            replaced(copy, edit.broken)
+
+    def run(self, copy, *more):
+        """What a check of a copy says."""
+        done = subprocess.run([*self.command, '--incremental', 'known', *more], cwd=copy, text=True,
+                              stdin=subprocess.DEVNULL, stdout=subprocess.PIPE,
+                              stderr=subprocess.STDOUT, errors='replace')
+        return done.stdout, done.returncode
+
+    def begin(self):
+        """Whether the crate is proved as it stands, over what `rt` kept of it."""
+        with tempfile.TemporaryDirectory() as made:
+            copy, kept = Path(made), self.folder / 'out/incremental'
+            self.copied(copy)
+            if kept.is_dir():
+                linked(kept, copy / 'known')
+            _, status = self.run(copy)
+            shutil.move(copy / 'known', self.known)
+        return status == 0
+
+    def refused(self, copy):
+        """What is refused of itself in an edited copy, each place with all that is said of it."""
+        said, status = self.run(copy)
+        if status != 1 or not re.search('^logic=not-proved', said, re.M):
+            raise ValueError(f'no refusal (exit status {status}): {said[-300:]}')
+        found = {}
+        for place, why in refusals(said, self.name):
+            found.setdefault(place, []).append(why)
+        return found, set(re.findall(r'^fn (\S+): .*which (?:is|are) not proved$', said, re.M))
+
+    def names(self, copy, functions):
+        """By the step that a name of a function's proof stands for: the name."""
+        with tempfile.TemporaryDirectory() as made:
+            starts = [word for name in functions for word in ('--start', name.partition('::')[2])]
+            self.run(copy, '--generated', made, *starts)
+            found, top = {}, Path(made, f'Rattle-{self.name}-proofs')
+            for name in functions:
+                goals = top.joinpath(*name.split('::')[1:], 'Goals.antt')
+                text = goals.read_text() if goals.exists() else ''
+                found[name] = {step: shown.removeprefix('the-fitted-') for shown, step in
+                               re.findall(r'^(\S+) =\s+Lts\.(\S+) Reads\.Pre', text, re.M)}
+        return found
+
+    def renamed(self, copy, functions):
+        """Whether the functions' proofs in the copy have the goals' names of the edited code.
+
+        A goal is named by the code that leads to it, as `returns-then-m-lt3`. Where an edit changes
+        such a name, and no step, the answer is given to the goal under its new name.
+        """
+        with tempfile.TemporaryDirectory() as made:
+            self.copied(Path(made))
+            linked(self.known, Path(made) / 'known')
+            old = self.names(Path(made), functions)
+        new = self.names(copy, functions)
+        for name in functions:
+            if not old[name] or old[name].keys() != new[name].keys():
+                return False
+            turned = {was: new[name][step] for step, was in old[name].items()}
+            # the parts of names after the first word: a place's is that of its test
+            parts = {was.partition('-')[2]: now.partition('-')[2] for was, now in turned.items()
+                     if was != now and was[0].isupper()}
+            for path in (copy / 'proofs').joinpath(*name.split('::')[1:]).glob('*.antt'):
+                path.write_text(re.sub(r"[\w'-]+", lambda m: turn(m[0], turned, parts),
+                                       path.read_text()))
+        return True
+
+    def refuses(self, edits):
+        """What edits of as many functions come to.
+
+        It is a dict of each edit to whether it is refused as it must be and what to say; then what
+        else is refused; and the edits that must be tried without the others, since their functions
+        call other edited ones.
+        """
+        with tempfile.TemporaryDirectory() as made:
+            copy = Path(made)
+            self.copied(copy, edits)
+            linked(self.known, copy / 'known')
+            found, resting = self.refused(copy)
+            shapes = sorted(place for place, said in found.items() if any(map(SHAPE.search, said)))
+            if shapes and all('::' in place for place in shapes) and self.renamed(copy, shapes):
+                found, resting = self.refused(copy)
+        told, apart = {}, []
+        for edit in edits:
+            place = next((p for p in found if p.endswith(f'::{edit.function}')), None)
+            said = found.pop(place, [])
+            if len(edits) > 1 and any(p.endswith(f'::{edit.function}') for p in resting):
+                apart.append(edit)
+            elif said and not any(map(SHAPE.search, said)):
+                told[edit] = True, f'refused, as it must be, by {place}'
+            else:
+                told[edit] = False, f'NOT REFUSED AS IT MUST BE by {edit.function}: {said}'
+        return told, found, apart
+
+
+def turn(name, turned, parts):
+    """The name of a proof's text in the edited code's words."""
+    if name in turned:
+        return turned[name]
+    for was, now in parts.items():
+        name = re.sub(rf"-{re.escape(was)}(?![\w'])", f'-{now}', name)
+    return name
+
+
+def built(crates):
+    """Whether the libraries below the crates are proved; those of all crates if none is named."""
+    calls = [(TOP / 'crates' / crate, ['rt', 'lib']) for crate in crates]
+    for folder, command in calls or [(TOP, ['rt', 'all', 'check', '--jobs', str(at_once())])]:
+        done = subprocess.run(command, cwd=folder, text=True, stdin=subprocess.DEVNULL,
+                              stdout=subprocess.PIPE, stderr=subprocess.STDOUT, errors='replace')
+        if done.returncode:
+            print(done.stdout[-2000:])
+            return False
+    return True
+
+
+def rounds(edits):
+    """The edits in as few rounds as it takes to have one of each function in a round."""
+    parts = []
+    for edit in edits:
+        part = next((part for part in parts
+                     if edit.function not in [other.function for other in part]), None)
+        if part is None:
+            parts.append(part := [])
+        part.append(edit)
+    return parts
+
+
+def tried(crate, edits):
+    """What a round of edits came to: a line for each, and whether it is as it must be."""
+    began = time.time()
+    lines = []
+    try:
+        told, more, apart = crate.refuses(edits)
+        lines += [(f'{crate.name}/{edit.name}: {says}', good)
+                  for edit, (good, says) in told.items()]
+        lines += [(f'{crate.name}: {place} is refused too: {said}', False)
+                  for place, said in more.items()]
+    except ValueError as fault:
+        apart = []
+        lines.append((f'{crate.name}: {fault}', False))
+    lines = [(f'{says} ({time.time() - began:.0f} s)', good) for says, good in lines]
+    for part in rounds(apart) if len(apart) < len(edits) else [[edit] for edit in apart]:
+        lines += tried(crate, part)
+    return lines
 
 
 def misfits():
@@ -139,8 +332,9 @@ if __name__ == '__main__':
     if sys.argv[1:2] == ['words'] and sys.argv[2:]:
         print(*words(sys.argv[2], '--source' in sys.argv[3:]), sep='\n')
     elif sys.argv[1:] == ['misfits']:
-        for said in misfits():
-            print(said)
+        found = list(misfits())
+        print(*found, sep='\n', end='\n' if found else '')
+        sys.exit(1 if found else 0)
     elif sys.argv[1:] == ['at-once']:
         print(at_once())
     else:
