@@ -1,11 +1,11 @@
 // The schedule program: a block of standard input is read, answered and written to standard output,
 // until the input ends. What is printed is defined and proved in crates lines and transcript; here
 // is only what the system does. A call that is interrupted is made again, and a write that took a
-// part goes on behind it. The program's own status is 0: one line on standard error says how the
-// run ended, unless all was answered.
+// part goes on behind it. The program's own status is 0, unless standard error fails too: one line
+// there says how the run ended, unless all was answered.
 #![tactic(auto)]
 
-ghost use Rattle.std.specs.Prelude.{◌≤◌, length};
+ghost use Rattle.std.specs.Prelude.{◌≤◌, length, IfOk};
 
 use session::Session;
 use std::io::{self, ErrorKind, Print, Read};
@@ -27,6 +27,7 @@ pub enum Standing {
     Unloaded,
     Unread,
     Unwritten,
+    Unheard,
 }
 
 // Where a block led, and how the run stands.
@@ -63,51 +64,54 @@ fn read(mut stdin: Stdin, input: &mut [u8]) -> Option<usize> {
     None
 }
 
-// Writes a part of the bytes: how many were taken, 0 where they cannot be written.
-fn write_some(stdout: Stdout, bytes: &[u8]) -> usize
-    ensures { result ≤ length bytes.now }
+// Writes a part of the bytes: how many were taken, or how the run ends where none can be written.
+fn write_some(stdout: Stdout, bytes: &[u8]) -> Result<usize, Standing>
+    ensures { IfOk result (λ n. n ≤ length bytes.now) }
 {
     for _ in 0..u64::MAX {
         match stdout.write_some(bytes) {
-            Ok(put) => return put,
-            Err(error) => {
-                if !again(error) {
-                    return 0;
+            Ok(put) => return Ok(put),
+            Err(error) => match error.kind() {
+                ErrorKind::BrokenPipe => return Err(Standing::Unheard),
+                _ => {
+                    if !again(error) {
+                        return Err(Standing::Unwritten);
+                    }
                 }
-            }
+            },
         }
     }
-    0
+    Err(Standing::Unwritten)
 }
 
 // Writes all of the bytes, a part after the other.
-fn write(stdout: Stdout, bytes: &[u8]) -> bool {
+fn write(stdout: Stdout, bytes: &[u8]) -> Result<(), Standing> {
     let mut done = 0;
     while done < bytes.len() {
-        let put = write_some(stdout, &bytes[done..]);
+        let put = write_some(stdout, &bytes[done..])?;
         if put == 0 {
-            return false;
+            return Err(Standing::Unwritten);
         }
         done += put;
     }
-    true
+    Ok(())
 }
 
 // Writes what a block printed.
-fn write_used(stdout: Stdout, out: &[u8], s: Session) -> bool {
+fn write_used(stdout: Stdout, out: &[u8], s: Session) -> Result<(), Standing> {
     let run = s.run;
     let used = run.used;
     if out.len() < used {
-        return false;
+        return Err(Standing::Unwritten);
     }
     write(stdout, &out[0..used])
 }
 
 // How the run stands after a block of n bytes, none at the end of the input, whose answers were
-// written or not.
-fn after(written: bool, s: Session, n: usize) -> Standing {
-    if !written {
-        return Standing::Unwritten;
+// written, or could not be.
+fn after(written: Result<(), Standing>, s: Session, n: usize) -> Standing {
+    if let Err(standing) = written {
+        return standing;
     }
     if transcript::is_stopped(s) {
         return Standing::Unloaded;
@@ -129,6 +133,7 @@ fn goes_on(standing: Standing) -> bool {
         Standing::Unloaded => false,
         Standing::Unread => false,
         Standing::Unwritten => false,
+        Standing::Unheard => false,
     }
 }
 
@@ -191,6 +196,7 @@ fn said(standing: Standing) -> &'static str {
         Standing::Unloaded => "jenturik: the export is refused\n",
         Standing::Unread => "jenturik: the input cannot be read\n",
         Standing::Unwritten => "jenturik: the output cannot be written\n",
+        Standing::Unheard => "jenturik: nobody reads the output\n",
     }
 }
 
