@@ -1,6 +1,6 @@
 -- The two forms that are lent structs: what they promise determines the outcome, and what they
--- leave. The check makes no `Learnt` of such a function: here it is read off the generated
--- contract, by the library's own reading.
+-- leave. What a caller learns of such a call is read off the generated contract here, by the
+-- library's own reading.
 use mathlib.Core.Path.{◌≡◌, refl}
 use base.Logic.{emp}
 use contract.Lifetimes.{Lfts}
