@@ -190,16 +190,15 @@ class Crate:
         return found, set(re.findall(r'^fn (\S+): .*which (?:is|are) not proved$', said, re.M))
 
     def names(self, copy, functions):
-        """By the step that a name of a function's proof stands for: the name."""
+        """The names that the functions' proofs have for steps and goals, by what they stand for."""
         with tempfile.TemporaryDirectory() as made:
             starts = [word for name in functions for word in ('--start', name.partition('::')[2])]
             self.run(copy, '--generated', made, *starts)
             found, top = {}, Path(made, f'Rattle-{self.name}-proofs')
             for name in functions:
                 goals = top.joinpath(*name.split('::')[1:], 'Goals.antt')
-                text = goals.read_text() if goals.exists() else ''
-                found[name] = {step: shown.removeprefix('the-fitted-') for shown, step in
-                               re.findall(r'^(\S+) =\s+Lts\.(\S+) Reads\.Pre', text, re.M)}
+                blocks = goals.read_text().split('\n\n') if goals.exists() else []
+                found[name] = {key: shown for key, shown in map(step_of, blocks) if key}
         return found
 
     def renamed(self, copy, functions):
@@ -217,9 +216,7 @@ class Crate:
             if not old[name] or old[name].keys() != new[name].keys():
                 return False
             turned = {was: new[name][step] for step, was in old[name].items()}
-            # the parts of names after the first word: a place's is that of its test
-            parts = {was.partition('-')[2]: now.partition('-')[2] for was, now in turned.items()
-                     if was != now and was[0].isupper()}
+            parts = dict(part_of(was, now) for was, now in turned.items() if was != now)
             for path in (copy / 'proofs').joinpath(*name.split('::')[1:]).glob('*.antt'):
                 path.write_text(re.sub(r"[\w'-]+", lambda m: turn(m[0], turned, parts),
                                        path.read_text()))
@@ -251,6 +248,27 @@ class Crate:
             else:
                 told[edit] = False, f'NOT REFUSED AS IT MUST BE by {edit.function}: {said}'
         return told, found, apart
+
+
+def step_of(block):
+    """What a name that rattle gives stands for, and the name: a step, or a goal and its clause."""
+    place = re.search(r'^(\S+) =\s+Lts\.(\S+)', block, re.M)
+    fitted = re.search(r'^the-fitted-(\S+) =', block, re.M)
+    if fitted:
+        goal = re.search(r'Lts\.(?:ByClause-)?(Need-[\w-]+)', block)
+        return (goal[1], fitted[1].partition('-clause-')[2]) if goal else None, fitted[1]
+    return (place[2], '') if place else None, place and place[1]
+
+
+def part_of(was, now):
+    """The part of a goal's name that differs, from the words `then`, `else` or `in` on."""
+    was, now = was.split('-'), now.split('-')
+    start = next((i for i, (a, b) in enumerate(zip(was, now)) if a != b), min(len(was), len(now)))
+    end = next((i for i, (a, b) in enumerate(zip(was[:start - 1:-1], now[:start - 1:-1])) if a != b),
+               min(len(was), len(now)) - start)
+    while start > 0 and was[start - 1] not in ('then', 'else', 'in', 'if'):
+        start -= 1
+    return '-'.join(was[start:len(was) - end]), '-'.join(now[start:len(now) - end])
 
 
 def turn(name, turned, parts):
