@@ -48,7 +48,7 @@ pub schedule_determined : (κs : _) (a : _) (r r' : _) (s s' : _) → ScheduleLe
     × (r.changed ≡ r'.changed)
 schedule_determined κs a r r' s s' = both
 
--- what each leaves is what specs/Calls.antt says of it
+-- what each leaves is what specs/Calls.antt says of it; [Calls 4] the first is lent the record
 pub collect_in_place_leaves : (κs : _) (a : _) (r : _) (s : _) → FrameLearnt κs a r s
     → lent s.0.now s.1.0.now s.1.1.0.now s.1.1.1.0.now
     ≡ rattle.leaves CollectInPlace
