@@ -198,58 +198,60 @@ function theorem() {
     const list = (numbers) => [...numbers, "[]"].join(" ∷ ");
     const rows = ({ steps }) => steps.slice(1).map(({ left, right, colour, record }) =>
         `    (${list([...left, ...right, ...colour, ...record])}) ∷\n`).join("");
-    const run = (name, text) => `\n-- ${text}\nabbrev steps-${name} : List (List ℕ)\n` +
-        `steps-${name} =\n${rows(versions[name])}    []\n`;
+    const run = (name, text) => `\n-- ${text}\nabbrev steps_${name} : List (List ℕ)\n` +
+        `steps_${name} =\n${rows(versions[name])}    []\n`;
     return HEAD + run("two", "version two") + run("three", "version three") + TAIL;
 }
 
 const HEAD = `\
 -- The steps of versions two and three that the page shows are those of their definitions. The
 -- numbers stand in web/versions.json too, and web/record.mjs writes both.
-use Prim.Native.Nat.{ℕ, _+_, _-_, _*_, _/_, _%_}
-use mathlib.Core.Path.{_≡_, refl}
-use mathlib.Core.List.{List, [], _∷_, _++_}
-use lib.ListN.{getD}
-use Rattle·base.specs.Choice.{pick, every, first}
-use Rattle·rules.specs.Table.{State, Outcome, unless, edgeOf, withEdge, cleared, shadeIn, badEdge}
-use Rattle·rules.specs.Phases.{tagOf, position, second}
-use Rattle·rules.specs.Records.{oneMore, afterAppend}
-use Rattle·rules.specs.Check.{sizeOk, positionOk, secondOk, phaseOk, owedOk, lastOk, freeOk}
-use Rattle·rules.specs.Check.{bound, cycleOk, toldOk, countsOk, recordOk, checkOf}
-use Rattle·rules.specs.Fresh.{tabulate, nextFree, freshLeft, freshLast, freshState}
-use Rattle·rules.specs.Places.{sidesOk, turnsOk, placeCode, walkFrom, arrive}
-use Rattle·rules.specs.Editor.{sideCode, owedCode, look, depart, linkTo, link, pay, shadeOwed}
-use Rattle·rules.specs.Editor.{badFree, relink, takeNext, takeFirst, take}
-use Rattle·rules.specs.Collector.{shadeStep, afterRoots, scanStep, readStep, blackStep, append}
-use Rattle·rules.specs.Collector.{appendWhite, appendStep, phaseStep, collect}
-use Rattle·rules.specs.Steps.{step, collecting}
-use Rattle·rules.specs.declared.Step.{Step}
-use Rattle·runs·proofs.proofs.Versions.{step-two, calls-two, step-three, calls-three}
+use Prim.Native.Nat.{ℕ}
+use mathlib.Core.Path.{◌≡◌, refl}
+use mathlib.Core.List.{List, [], ◌∷◌, ◌++◌}
+use lib.ListN.{get_or}
+use Rattle.base.specs.Choice.{pick, every, first}
+use Rattle.rules.specs.Table.{State, Outcome, unless, edge_of, with_edge, cleared, shade_in}
+use Rattle.rules.specs.Table.{bad_edge}
+use Rattle.rules.specs.Phases.{tag_of, position, second}
+use Rattle.rules.specs.Records.{one_more, after_append}
+use Rattle.rules.specs.Check.{size_ok, position_ok, second_ok, phase_ok, owed_ok, last_ok, free_ok}
+use Rattle.rules.specs.Check.{bound, cycle_ok, told_ok, counts_ok, record_ok, check_of}
+use Rattle.rules.specs.Fresh.{tabulate, next_free, fresh_left, fresh_last, fresh_state}
+use Rattle.rules.specs.Places.{sides_ok, turns_ok, place_code, walk_from, arrive}
+use Rattle.rules.specs.Editor.{side_code, owed_code, look, depart, link_to, link, pay, shade_owed}
+use Rattle.rules.specs.Editor.{bad_free, relink, take_next, take_first, take}
+use Rattle.rules.specs.Collector.{shade_step, after_roots, scan_step, read_step, black_step, append}
+use Rattle.rules.specs.Collector.{append_white, append_step, phase_step, collect}
+use Rattle.rules.specs.Steps.{step, collecting}
+use Rattle.rules.specs.declared.Step.{Step}
+use Rattle.runs.proofs.Versions.{step_two, calls_two, step_three, calls_three}
 
 -- what is recorded of a state: the left edges, the right edges, the colours, the phase, and last
 abbrev row : State → List ℕ
-row s = (getD (s .edges) 0 [] ++ getD (s .edges) 1 [] ++ s .colour)
-    ++ (tagOf (s .rec .phase) ∷ position (s .rec .phase) ∷ second (s .rec .phase) ∷ s .rec .last
+row s = (get_or s.edges 0 [] ++ get_or s.edges 1 [] ++ s.colour)
+    ++ (tag_of s.rec.phase ∷ position s.rec.phase ∷ second s.rec.phase ∷ s.rec.last
     ∷ [])
 
 -- the states that a list of calls leads to, one after the other
 abbrev trace : (Step → State → Outcome) → List Step → State → List (List ℕ)
 trace by [] s = []
-trace by (c ∷ cs) s = row (by c s .state) ∷ trace by cs (by c s .state)
+trace by (c ∷ cs) s = row (by c s).state ∷ trace by cs (by c s).state
 `;
 
 const TAIL = `
 -- Up to the collector's step that loses node 3, these are the steps.
 pub record Recorded : Type 0 where
-  pub two : trace step-two (calls-two ++ (collecting ∷ [])) (freshState 2 4 1) ≡ steps-two
-  pub three : trace step-three (calls-three ++ (collecting ∷ [])) (freshState 2 4 1) ≡ steps-three
+  pub two : trace step_two (calls_two ++ (collecting ∷ [])) (fresh_state 2 4 1) ≡ steps_two
+  pub three : trace step_three (calls_three ++ (collecting ∷ [])) (fresh_state 2 4 1) ≡ steps_three
 
 pub recorded : Recorded
-unfolding edgeOf withEdge cleared shadeIn badEdge unless pick every first oneMore afterAppend sizeOk
-    positionOk secondOk phaseOk owedOk lastOk freeOk bound cycleOk toldOk countsOk recordOk checkOf
-    tabulate nextFree freshLeft freshLast freshState sidesOk turnsOk placeCode walkFrom arrive
-    sideCode owedCode look depart linkTo link pay shadeOwed badFree relink takeNext takeFirst take
-    shadeStep afterRoots scanStep readStep blackStep append appendWhite appendStep phaseStep collect step
+unfolding edge_of with_edge cleared shade_in bad_edge unless pick every first one_more after_append
+    size_ok position_ok second_ok phase_ok owed_ok last_ok free_ok bound cycle_ok told_ok counts_ok
+    record_ok check_of tabulate next_free fresh_left fresh_last fresh_state sides_ok turns_ok
+    place_code walk_from arrive side_code owed_code look depart link_to link pay shade_owed bad_free
+    relink take_next take_first take shade_step after_roots scan_step read_step black_step append
+    append_white append_step phase_step collect step
 recorded = record { two = refl; three = refl }
 `;
 
