@@ -5,7 +5,7 @@
 // there says how the run ended, unless all was answered.
 #![tactic(auto)]
 
-ghost use Rattle.std.specs.Prelude.{◌≤◌, length, IfOk};
+ghost use Rattle.std.specs.Prelude.{◌≤◌, length};
 
 use session::Session;
 use std::io::{self, ErrorKind, Print, Read};
@@ -27,7 +27,6 @@ pub enum Standing {
     Unloaded,
     Unread,
     Unwritten,
-    Unheard,
 }
 
 // Where a block led, and how the run stands.
@@ -64,54 +63,51 @@ fn read(mut stdin: Stdin, input: &mut [u8]) -> Option<usize> {
     None
 }
 
-// Writes a part of the bytes: how many were taken, or how the run ends where none can be written.
-fn write_some(stdout: Stdout, bytes: &[u8]) -> Result<usize, Standing>
-    ensures { IfOk result (λ n. n ≤ length bytes.now) }
+// Writes a part of the bytes: how many were taken, 0 where they cannot be written.
+fn write_some(stdout: Stdout, bytes: &[u8]) -> usize
+    ensures { result ≤ length bytes.now }
 {
     for _ in 0..u64::MAX {
         match stdout.write_some(bytes) {
-            Ok(put) => return Ok(put),
-            Err(error) => match error.kind() {
-                ErrorKind::BrokenPipe => return Err(Standing::Unheard),
-                _ => {
-                    if !again(error) {
-                        return Err(Standing::Unwritten);
-                    }
+            Ok(put) => return put,
+            Err(error) => {
+                if !again(error) {
+                    return 0;
                 }
-            },
+            }
         }
     }
-    Err(Standing::Unwritten)
+    0
 }
 
 // Writes all of the bytes, a part after the other.
-fn write(stdout: Stdout, bytes: &[u8]) -> Result<(), Standing> {
+fn write(stdout: Stdout, bytes: &[u8]) -> bool {
     let mut done = 0;
     while done < bytes.len() {
-        let put = write_some(stdout, &bytes[done..])?;
+        let put = write_some(stdout, &bytes[done..]);
         if put == 0 {
-            return Err(Standing::Unwritten);
+            return false;
         }
         done += put;
     }
-    Ok(())
+    true
 }
 
 // Writes what a block printed.
-fn write_used(stdout: Stdout, out: &[u8], s: Session) -> Result<(), Standing> {
+fn write_used(stdout: Stdout, out: &[u8], s: Session) -> bool {
     let run = s.run;
     let used = run.used;
     if out.len() < used {
-        return Err(Standing::Unwritten);
+        return false;
     }
     write(stdout, &out[0..used])
 }
 
 // How the run stands after a block of n bytes, none at the end of the input, whose answers were
-// written, or could not be.
-fn after(written: Result<(), Standing>, s: Session, n: usize) -> Standing {
-    if let Err(standing) = written {
-        return standing;
+// written or not.
+fn after(written: bool, s: Session, n: usize) -> Standing {
+    if !written {
+        return Standing::Unwritten;
     }
     if transcript::is_stopped(s) {
         return Standing::Unloaded;
@@ -133,7 +129,6 @@ fn goes_on(standing: Standing) -> bool {
         Standing::Unloaded => false,
         Standing::Unread => false,
         Standing::Unwritten => false,
-        Standing::Unheard => false,
     }
 }
 
@@ -196,7 +191,6 @@ fn said(standing: Standing) -> &'static str {
         Standing::Unloaded => "jenturik: the export is refused\n",
         Standing::Unread => "jenturik: the input cannot be read\n",
         Standing::Unwritten => "jenturik: the output cannot be written\n",
-        Standing::Unheard => "jenturik: nobody reads the output\n",
     }
 }
 
