@@ -82,8 +82,13 @@ def at_once():
 
 
 def linked(known, to):
-    """Copies a folder of checked modules by links: a check replaces such files, changes none."""
-    subprocess.run(['cp', '-rl', known, to], check=True)
+    """Copies a folder of checked modules, by links: a check replaces such files, changes none."""
+    def copy(one, other):
+        try:
+            os.link(one, other)
+        except OSError:
+            shutil.copy2(one, other)
+    shutil.copytree(known, to, copy_function=copy)
 
 
 def replaced(folder, changes):
