@@ -20,6 +20,11 @@ TOP = Path(__file__).resolve().parent.parent
 ROOM = 3_000_000_000
 # what the check says where a proof's text no longer fits the code, whatever the code does
 SHAPE = re.compile(r'can be named from here|has no field|has no `|is not in scope|unknown name')
+# a name in a proof, and one of which the check says that it is gone
+NAME = re.compile(r"[\w'-]+")
+LOST = re.compile(r"has no (?:field )?`([\w'-]+)`")
+# a goal that no file answers and that no tactic closes
+OPEN = re.compile(r'it is not proved that ')
 # a file of a function's proof
 PROOF = re.compile(r'crates/(\w+)/proofs/(.+)/(?:Answers|Invariants|Proof)\.antt$')
 # what the check says of a thing that only rests on another that it refuses
@@ -116,7 +121,7 @@ def refusals(said, crate=''):
             place = f'{of[1]}::{of[2].replace("/", "::")}' if of else f'{at}: {name}'
             yield place, f'{name} {why}'.strip()
         # a goal that no file answers and that no tactic closes is told before its function
-        unproved = re.match(r'note: \S+:[0-9:]+ (it is not proved that .*)', line)
+        unproved = re.match(rf'note: \S+:[0-9:]+ ({OPEN.pattern}.*)', line)
         goal = unproved[1] if unproved else goal
         function = re.match(r'fn (\S+): (?:no proof: (.*)|not proved(.*))', line)
         if function and not RESTS.search(line) and (function[2] or goal):
@@ -185,14 +190,16 @@ class Crate:
         return status == 0
 
     def refused(self, copy):
-        """What is refused of itself in an edited copy, each place with all that is said of it."""
+        """What a check of an edited copy refuses of itself, each place with all that is said of it;
+        then the functions that call a refused one, and the whole that was said."""
         said, status = self.run(copy)
         if status != 1 or not re.search('^logic=not-proved', said, re.M):
             raise ValueError(f'no refusal (exit status {status}): {said[-300:]}')
         found = {}
         for place, why in refusals(said, self.name):
             found.setdefault(place, []).append(why)
-        return found, set(re.findall(r'^fn (\S+): .*which (?:is|are) not proved$', said, re.M))
+        resting = re.findall(r'^fn (\S+): .*which (?:is|are) not proved$', said, re.M)
+        return found, set(resting), said
 
     def names(self, copy, functions):
         """The names that the functions' proofs have for steps and goals, by what they stand for."""
@@ -206,25 +213,51 @@ class Crate:
                 found[name] = {key: shown for key, shown in map(step_of, blocks) if key}
         return found
 
+    def files(self, copy, functions):
+        """The proof files of functions in a copy, as they are in the crate."""
+        for name in functions:
+            folder = Path('proofs', *name.split('::')[1:])
+            for path in sorted((self.folder / folder).glob('*.antt')):
+                yield name, copy / folder / path.name, path.read_text()
+
+    def guessed(self, copy, functions, said):
+        """Whether new names for goals were found in what a check said; see `renamed`.
+
+        A name of the proof files that is gone stands for the one that is offered, is not in these
+        files, and differs from it in one word, with the same letters before its number.
+        """
+        texts = list(self.files(copy, functions))
+        own = {word for _, _, text in texts for word in NAME.findall(text)}
+        offered = {word.partition('-clause-')[0] for word in NAME.findall(said)} - own
+        parts = {}
+        for lost in {word for word in LOST.findall(said) if word in own}:
+            found = {part_of(lost, other) for other in offered if one_word(lost, other)}
+            if len(found) != 1:
+                return False
+            parts.update(found)
+        for _, path, text in texts:
+            path.write_text(NAME.sub(lambda m: turn(m[0], {}, parts), text))
+        return bool(parts)
+
     def renamed(self, copy, functions):
         """Whether the functions' proofs in the copy have the goals' names of the edited code.
 
         A goal is named by the code that leads to it, as `returns-then-m-lt3`. Where an edit changes
         such a name, and no step, the answer is given to the goal under its new name.
         """
+        for _, path, text in self.files(copy, functions):
+            path.write_text(text)
         with tempfile.TemporaryDirectory() as made:
             self.copied(Path(made))
             linked(self.known, Path(made) / 'known')
             old = self.names(Path(made), functions)
         new = self.names(copy, functions)
-        for name in functions:
-            if not old[name] or old[name].keys() != new[name].keys():
-                return False
+        if any(not old[name] or old[name].keys() != new[name].keys() for name in functions):
+            return False
+        for name, path, text in self.files(copy, functions):
             turned = {was: new[name][step] for step, was in old[name].items()}
             parts = dict(part_of(was, now) for was, now in turned.items() if was != now)
-            for path in (copy / 'proofs').joinpath(*name.split('::')[1:]).glob('*.antt'):
-                path.write_text(re.sub(r"[\w'-]+", lambda m: turn(m[0], turned, parts),
-                                       path.read_text()))
+            path.write_text(NAME.sub(lambda m: turn(m[0], turned, parts), text))
         return True
 
     def refuses(self, edits):
@@ -238,10 +271,16 @@ class Crate:
             copy = Path(made)
             self.copied(copy, edits)
             linked(self.known, copy / 'known')
-            found, resting = self.refused(copy)
-            shapes = sorted(place for place, said in found.items() if any(map(SHAPE.search, said)))
-            if shapes and all('::' in place for place in shapes) and self.renamed(copy, shapes):
-                found, resting = self.refused(copy)
+            found, resting, said = self.refused(copy)
+            wrong = misnamed(found)
+            if wrong and self.guessed(copy, wrong, said):
+                found, resting, said = self.refused(copy)
+                # a goal that is left then may be one that has an answer
+                if not misnamed(found) and not any(OPEN.match(why) for name in wrong
+                                                   for why in found.get(name, [])):
+                    wrong = []
+            if wrong and self.renamed(copy, wrong):
+                found, resting, said = self.refused(copy)
         told, apart = {}, []
         for edit in edits:
             place = next((p for p in found if p.endswith(f'::{edit.function}')), None)
@@ -255,6 +294,20 @@ class Crate:
         return told, found, apart
 
 
+def misnamed(found):
+    """The functions that are refused for names in their proofs, if nothing else is so refused."""
+    wrong = sorted(place for place, why in found.items() if any(map(SHAPE.search, why)))
+    return wrong if all('::' in place for place in wrong) else []
+
+
+def one_word(was, now):
+    """Whether names differ in one word, whose letters before a number are the same."""
+    was, now = was.split('-'), now.split('-')
+    apart = [pair for pair in zip(was, now) if pair[0] != pair[1]]
+    return len(was) == len(now) and len(apart) == 1 and len(
+        {word.rstrip('0123456789') for word in apart[0]}) == 1
+
+
 def step_of(block):
     """What a name that rattle gives stands for, and the name: a step, or a goal and its clause."""
     place = re.search(r'^(\S+) =\s+Lts\.(\S+)', block, re.M)
@@ -266,11 +319,14 @@ def step_of(block):
 
 
 def part_of(was, now):
-    """The part of a goal's name that differs, from the words `then`, `else` or `in` on."""
+    """The part of a goal's name that differs, from the words `then`, `else`, `in` or `if` on."""
     was, now = was.split('-'), now.split('-')
-    start = next((i for i, (a, b) in enumerate(zip(was, now)) if a != b), min(len(was), len(now)))
-    end = next((i for i, (a, b) in enumerate(zip(was[:start - 1:-1], now[:start - 1:-1])) if a != b),
-               min(len(was), len(now)) - start)
+    least = min(len(was), len(now))
+    start = end = 0
+    while start < least and was[start] == now[start]:
+        start += 1
+    while end < least - start and was[-1 - end] == now[-1 - end]:
+        end += 1
     while start > 0 and was[start - 1] not in ('then', 'else', 'in', 'if'):
         start -= 1
     return '-'.join(was[start:len(was) - end]), '-'.join(now[start:len(now) - end])
