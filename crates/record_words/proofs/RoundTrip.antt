@@ -15,19 +15,19 @@ use Rattle.rules.proofs.Phases.{phase_back, phase_there}
 use Rattle.rules.specs.Phases.{tag_of, position, second}
 use Rattle.rules.specs.Records.{with_owed, with_last, with_free}
 use Rattle.rules.specs.declared.Record.{Record}
-use Rattle.rules.specs.declared.Owed.{Owed}
-use Rattle.rules.specs.declared.Owed.TheVariants.{Nothing, Node}
 use Rattle.record_words.specs.Words.{word, owes_of, owed_of, laid_out, words_of}
 use Rattle.record_words.specs.Words.{shade_of}
 use Rattle.record_words.specs.Words.{record_of, flagged, is_record, Within, WORDS, USED, unused}
 use Rattle.record_words.specs.Words.{NODES, SLOTS, PHASE, I, K, OWES, OWED, LAST, STEPS}
 use Rattle.record_words.specs.Words.{CYCLES, TOOK, BLACKENED, LASTBLACKENED, FREECOUNT}
 use Rattle.record_words.proofs.Widths.{widths, words_are, owes_most}
+use Rattle.rules.specs.Records.{Owed}
+use Rattle.std.specs.Prelude.{Some, None}
 
 owed_back : (o : Owed) → shade_of (owes_of o) (owed_of o) ≡ o
 unfolding shade_of pick
-owed_back Nothing = refl
-owed_back (Node n) = refl
+owed_back None = refl
+owed_back (Some n) = refl
 
 pub record_back : (x : Record) → record_of (words_of x) ≡ x
 unfolding record_of

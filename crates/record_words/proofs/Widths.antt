@@ -12,12 +12,12 @@ use Rattle.base.proofs.Tests.{each, every_skip, every_last, eq_yes, le_yes, pick
 use Rattle.rules.specs.declared.Record.{Record}
 use Rattle.rules.specs.Phases.{most_tag}
 use Rattle.rules.proofs.Phases.{no_second}
-use Rattle.rules.specs.declared.Owed.{Owed}
-use Rattle.rules.specs.declared.Owed.TheVariants.{Nothing, Node}
 use Rattle.record_words.specs.Words.{word, owes_of, owed_of, words_of, most, within, joined}
 use Rattle.record_words.specs.Words.{narrows, spares, narrow, spare, flagged, is_record}
 use Rattle.record_words.specs.Words.{Within, WORDS, NODES, PHASE, OWES, STEPS, CYCLES, TOOK}
 use Rattle.record_words.specs.Words.{USED}
+use Rattle.rules.specs.Records.{Owed}
+use Rattle.std.specs.Prelude.{Some, None}
 
 none_within : (w : List ℕ) → true ≡ within w 0
 unfolding within
@@ -123,8 +123,8 @@ widths w e = facts_of w WORDS (sym (each _ e).1.0)
 
 -- a phase's and a shade's words
 pub owes_most : (o : Owed) → owes_of o ≤ 1
-owes_most Nothing = omega arith
-owes_most (Node n) = omega arith
+owes_most None = omega arith
+owes_most (Some n) = omega arith
 
 flagged_ok : (told : Bool) (n : ℕ) → (told ≡ false → n ≡ 0) → true ≡ flagged told n
 unfolding flagged
@@ -133,8 +133,8 @@ flagged_ok false n h = pick_no _ _ _ _ refl (eq_yes _ _ (h refl))
 
 owed_flagged : (o : Owed) → true ≡ flagged (eqb (owes_of o) 1) (owed_of o)
 unfolding flagged
-owed_flagged Nothing = search tests
-owed_flagged (Node n) = search tests
+owed_flagged None = search tests
+owed_flagged (Some n) = search tests
 
 pub words_are : (x : Record) (w : List ℕ) → w ≡ words_of x → Within (words_of x) WORDS
     → (w ≡ words_of x) × (true ≡ is_record w)

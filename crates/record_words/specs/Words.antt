@@ -7,8 +7,8 @@ use Rattle.rules.specs.Check.{check_of}
 use Rattle.rules.specs.Phases.{most_tag, tag_of, position, second, has_second, phase_of}
 use Rattle.rules.specs.declared.Record.{Record}
 use Rattle.rules.specs.declared.Phase.{Phase}
-use Rattle.rules.specs.declared.Owed.{Owed}
-use Rattle.rules.specs.declared.Owed.TheVariants.{Nothing, Node}
+use Rattle.rules.specs.Records.{Owed}
+use Rattle.std.specs.Prelude.{Some, None}
 
 abbrev pub word : List ℕ → ℕ → ℕ
 word w n = get_or w n 0
@@ -65,12 +65,12 @@ USED = 14
 
 -- whether a shade is owed, and the node: 0 where none is
 abbrev pub owes_of : Owed → ℕ
-owes_of Nothing = 0
-owes_of (Node n) = 1
+owes_of None = 0
+owes_of (Some n) = 1
 
 abbrev pub owed_of : Owed → ℕ
-owed_of Nothing = 0
-owed_of (Node n) = n
+owed_of None = 0
+owed_of (Some n) = n
 
 -- the words that have no use are 0
 abbrev pub unused : List ℕ
@@ -88,7 +88,7 @@ words_of x =
     (owed_of x.owed)
 
 unfoldable pub shade_of : ℕ → ℕ → Owed
-shade_of owes n = pick (eqb owes 0) Nothing (Node n)
+shade_of owes n = pick (eqb owes 0) None (Some n)
 
 -- the record of words that tell a phase and a shade
 abbrev pub picked_up : List ℕ → Phase → Owed → Record

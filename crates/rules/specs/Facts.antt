@@ -6,8 +6,8 @@ use Rattle.base.specs.Choice.{pick}
 use Rattle.rules.specs.Phases.{scan_tag, append_tag, tag_of, position, second, has_second}
 use Rattle.rules.specs.declared.Record.{Record}
 use Rattle.rules.specs.declared.Phase.{Phase}
-use Rattle.rules.specs.declared.Owed.{Owed}
-use Rattle.rules.specs.declared.Owed.TheVariants.{Nothing, Node}
+use Rattle.rules.specs.Records.{Owed}
+use Rattle.std.specs.Prelude.{Some, None}
 
 -- a number above any count of steps: B is smaller, whatever M and R are
 abbrev pub many_steps : ℕ
@@ -39,8 +39,8 @@ Nears m q p = (eqb (tag_of q) append_tag ≡ false) × (quiet m q ≤ suc (quiet
 
 -- nothing, or a node of the table
 abbrev pub Owable : ℕ → Owed → Type 0
-Owable m Nothing = Unit {0}
-Owable m (Node n) = n < m
+Owable m None = Unit {0}
+Owable m (Some n) = n < m
 
 -- what earlier cycles told, b being B
 pub record Tells (x : Record) (b : ℕ) : Type 0 where

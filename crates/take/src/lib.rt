@@ -11,21 +11,15 @@ ghost use Rattle.rules.specs.Facts.{Checked};
 ghost use Rattle.rules.specs.declared.Record.{Record};
 ghost use Rattle.rules.specs.Lent.{given, leaves};
 
-use places::Source;
 use rules::{Answer, Made, Place, Record};
 
 // Whether an edge of the free chain is bad: to a root other than NIL, or at least M.
+#[tactic(auto, unfolding(base::specs::Choice::every, rules::specs::Editor::bad_free))]
 fn bad_free(m: u16, r: u16, e: u16) -> bool
     requires { r ≤ most_slots }
     ensures { result ≡ bad_free m r e }
 {
-    if m <= e {
-        return true;
-    }
-    if e < 1 {
-        return false;
-    }
-    e <= r + 1
+    m <= e || 1 <= e && e <= r + 1
 }
 
 // The edge points to f, FREE's left edge to g, f's left edge to NIL; f is shaded, and 1 answered
@@ -151,13 +145,12 @@ fn take_from(
         []) 0 1)) }
     ensures changed_value { result.changed ≡ differing colour.old colour.new }
 {
-    let from = places::depart(left, right, x.m, p);
-    match from {
-        Source::Found(n) => {
+    match places::depart(left, right, x.m, p) {
+        Ok(n) => {
             let f = table::edge(left, right, 0, 1);
             take_first(left, right, colour, x, side, f, n)
         }
-        Source::Missing(code, n, detail) => rules::refusal_with(code, n, detail, x),
+        Err(why) => rules::refusal_with(why.code, why.node, why.detail, x),
     }
 }
 

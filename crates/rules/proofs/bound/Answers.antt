@@ -7,16 +7,16 @@ use Rattle.rules.proofs.Sizes.{square}
 use Rattle.rules.proofs.bound.Goals as goal
 
 pub overflow_mul-result : goal.overflow_mul-result
-overflow_mul-result c = omega (arith, square c.args.m (search rules))
+overflow_mul-result c = omega (arith, square c.from-n.result (omega arith))
 
 pub overflow_add-result : goal.overflow_add-result
-overflow_add-result c = omega (arith, square c.args.m (search rules))
+overflow_add-result c = omega (arith, square c.from-n.result (omega arith))
 
 pub overflow_add-result-2 : goal.overflow_add-result-2
-overflow_add-result-2 c = omega (arith, square c.args.m (search rules))
+overflow_add-result-2 c = omega (arith, square c.from-n.result (omega arith))
 
 pub overflow_add-result-3 : goal.overflow_add-result-3
-overflow_add-result-3 c = omega (arith, square c.args.m (search rules))
+overflow_add-result-3 c = omega (arith, square c.from-n.result (omega arith))
 
 pub returns : goal.returns
 unfolding bound

@@ -8,22 +8,22 @@ use Rattle.take.proofs.take_from.Goals as goal
 pub take_first-requires : goal.take_first-requires
 take_first-requires c =
     let n =
-    found_below _ _ _ _ _ _ _ _ c.depart-from.ensures c.in-Found.is
+    found_below _ _ _ _ _ _ _ _ c.depart.ensures c.in-Ok.is
     (omega (arith, c.requires)) in
     omega (arith, c.requires)
 
-pub returns-in-Found : goal.returns-in-Found
-returns-in-Found c =
+pub returns-in-Ok : goal.returns-in-Ok
+returns-in-Ok c =
     record {
-      colour_value = departs _ _ _ _ _ _ c.depart-from.ensures c.in-Found.is
+      colour_value = departs _ _ _ _ _ _ c.depart.ensures c.in-Ok.is
           (rw (← c.edge-f.ensures) c.take_first.ensures.colour_value);
       changed_value = c.take_first.ensures.changed_value;
     }
 
-pub returns-in-Missing : goal.returns-in-Missing
-returns-in-Missing c =
+pub returns-in-Err : goal.returns-in-Err
+returns-in-Err c =
     record {
       colour_value = rw c.refusal_with.ensures
-          (absent _ _ _ _ _ _ _ c.depart-from.ensures c.in-Missing.is);
+          (absent _ _ _ _ _ c.depart.ensures c.in-Err.is);
       changed_value = rw c.refusal_with.ensures (unchanged _);
     }
