@@ -11,7 +11,7 @@ ghost use Rattle.rules.specs.Table.{most_nodes, most_slots, FREE};
 ghost use Rattle.rules.specs.Records.{with_owed, with_last, with_free};
 ghost use Rattle.rules.specs.Check.{position_ok, second_ok, last_ok, free_ok, counts_ok, record_ok};
 
-use rules::{Owed, Phase, Record};
+use rules::{Phase, Record};
 
 // How many words there are, and the number of each, by the names of include/jenturik.h.
 pub const WORDS: usize = 24;
@@ -44,22 +44,19 @@ const LASTBLACKENED: usize = 12;
 
 const FREECOUNT: usize = 13;
 
-fn owes(o: Owed) -> u32
+fn owes(o: Option<u16>) -> u32
     ensures { result ≡ owes_of o }
 {
     match o {
-        Owed::Nothing => 0,
-        Owed::Node(_) => 1,
+        None => 0,
+        Some(_) => 1,
     }
 }
 
-fn owed(o: Owed) -> u16
+fn owed(o: Option<u16>) -> u16
     ensures { result ≡ owed_of o }
 {
-    match o {
-        Owed::Nothing => 0,
-        Owed::Node(n) => n,
-    }
+    o.unwrap_or(0)
 }
 
 fn laid_out(x: Record, tag: u32, i: u16, k: u16, owes: u32, n: u16) -> [u32; WORDS]
@@ -320,43 +317,6 @@ fn phase_ok(m: u32, r: u32, tag: u32, i: u32, k: u32) -> bool
     k < m
 }
 
-// Whether the node owed is good; where none is, its word is 0, which is.
-fn owed_ok(m: u32, n: u32) -> bool
-    ensures { result ≡ every (not (eqb n FREE) ∷ ltb n m ∷ []) }
-{
-    if n == 1 {
-        return false;
-    }
-    n < m
-}
-
-fn last_ok(m: u32, r: u32, n: u32) -> bool
-    requires { r ≤ most_slots }
-    ensures { result ≡ last_ok m r n }
-{
-    if n == 1 {
-        return true;
-    }
-    if n < r + 2 {
-        return false;
-    }
-    n < m
-}
-
-fn free_ok(m: u32, r: u32, last: u32, n: u32) -> bool
-    requires r_le_most_slots { r ≤ most_slots }
-    requires r_bound { r + 2 ≤ m }
-    ensures { result ≡ free_ok m r last n }
-{
-    if m - (r + 2) < n {
-        return false;
-    }
-    if last == 1 {
-        return n == 0;
-    }
-    n != 0
-}
-
 fn counts_ok(w: [u32; WORDS], b: u32) -> bool
     ensures { result ≡ counts_ok (record_of w) b }
 {
@@ -385,13 +345,14 @@ fn record_ok(w: [u32; WORDS]) -> bool
     if !phase_ok(m, r, w[PHASE], w[I], w[K]) {
         return false;
     }
-    if !owed_ok(m, w[OWED]) {
+    // Where no shade is owed, the node owed is 0, which is good.
+    if !rules::node_ok(m, w[OWED]) {
         return false;
     }
-    if !last_ok(m, r, w[LAST]) {
+    if !rules::last_ok(m, r, w[LAST]) {
         return false;
     }
-    if !free_ok(m, r, w[LAST], w[FREECOUNT]) {
+    if !rules::free_ok(m, r, w[LAST], w[FREECOUNT]) {
         return false;
     }
     counts_ok(w, rules::bound(m as u16, r as u16))
@@ -413,16 +374,14 @@ pub fn judge(lefts: usize, rights: usize, colours: usize, w: [u32; WORDS]) -> u8
     0
 }
 
-fn shade_of(owes: u32, n: u16) -> Owed
+#[tactic(auto, unfolding(base::specs::Choice::pick, crate::specs::Words::shade_of))]
+fn shade_of(owes: u32, n: u16) -> Option<u16>
     ensures { result ≡ shade_of owes n }
 {
-    if owes == 0 {
-        return Owed::Nothing;
-    }
-    Owed::Node(n)
+    if owes == 0 { None } else { Some(n) }
 }
 
-fn picked_up(w: [u32; WORDS], phase: Phase, owed: Owed) -> Record
+fn picked_up(w: [u32; WORDS], phase: Phase, owed: Option<u16>) -> Record
     requires { Within w WORDS }
     ensures { result ≡ picked_up w phase owed }
 {
