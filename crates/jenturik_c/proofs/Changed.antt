@@ -16,12 +16,11 @@ use Rattle.rules.specs.declared.Made.{Made}
 use Rattle.rules.specs.declared.Place.{Place}
 use Rattle.rules.specs.declared.Record.{Record}
 use Rattle.rules.specs.Places.{Walk}
-use Rattle.std.specs.Prelude.{Ok, Err}
+use Rattle.std.specs.Prelude.{Ok, Err, Some, None}
 use Rattle.record_words.specs.Words.{record_of}
 use Rattle.rules.proofs.Laws.{step_taking, step_linking, step_shading, step_collecting}
 use Rattle.rules.proofs.PhaseSteps.{collect_comes}
 use Rattle.rules.specs.Records.{Owed}
-use Rattle.std.specs.Prelude.{Some, None}
 
 -- what holds of the record of s, and of each record that a step can leave instead
 module _ (s : State) (P : Record → Type 0) (same : P s.rec) where

@@ -1,14 +1,13 @@
 -- [C 2] The record as 32-bit words, for callers that have no enums.
 use Rattle.base.specs.Choice.{pick, every}
 use Rattle.std.specs.Prelude.{ℕ, zero, suc, ◌-◌, ◌≤◌, Bool, true, List, [], ◌∷◌, leb, eqb}
-use Rattle.std.specs.Prelude.{length, get_or, replicate}
+use Rattle.std.specs.Prelude.{length, get_or, replicate, Some, None}
 use Rattle.std.specs.Int.Bits.{bit_or}
 use Rattle.rules.specs.Check.{check_of}
 use Rattle.rules.specs.Phases.{most_tag, tag_of, position, second, has_second, phase_of}
 use Rattle.rules.specs.declared.Record.{Record}
 use Rattle.rules.specs.declared.Phase.{Phase}
 use Rattle.rules.specs.Records.{Owed}
-use Rattle.std.specs.Prelude.{Some, None}
 
 abbrev pub word : List ℕ → ℕ → ℕ
 word w n = get_or w n 0

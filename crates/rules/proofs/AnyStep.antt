@@ -21,13 +21,12 @@ use Rattle.rules.specs.declared.Place.{Place}
 use Rattle.rules.specs.declared.Record.{Record}
 use Rattle.rules.specs.declared.Step.{Step}
 use Rattle.rules.specs.Places.{Walk}
-use Rattle.std.specs.Prelude.{Ok, Err}
+use Rattle.std.specs.Prelude.{Ok, Err, Some, None}
 use Rattle.rules.proofs.Changes.{shaded_length}
 use Rattle.rules.proofs.Rows.{edge_lengths}
 use Rattle.rules.proofs.Steady.{count, Kept, Passed, passed, kept}
 use Rattle.rules.proofs.Walks.{Ends, ends, slot_below}
 use Rattle.rules.specs.Records.{Owed}
-use Rattle.std.specs.Prelude.{Some, None}
 
 owes_ok : (m n : ℕ) → n ≢ FREE → n < m → true ≡ owed_ok m (Some n)
 unfolding owed_ok

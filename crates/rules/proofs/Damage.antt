@@ -24,12 +24,11 @@ use Rattle.rules.specs.declared.Step.{Step}
 use Rattle.rules.specs.declared.Answer.{Answer}
 use Rattle.rules.specs.declared.Answer.TheVariants.{Refused}
 use Rattle.rules.specs.Places.{Walk}
-use Rattle.std.specs.Prelude.{Ok, Err}
+use Rattle.std.specs.Prelude.{Ok, Err, Some, None}
 use Rattle.rules.proofs.Checked.{m_low}
 use Rattle.rules.proofs.Refusals.{Early, check_early, either, damaged}
 use Rattle.rules.proofs.PhaseSteps.{collect_comes}
 use Rattle.rules.specs.Records.{Owed}
-use Rattle.std.specs.Prelude.{Some, None}
 
 place_early : (E r : ℕ) (p : Place) → Early (place_code E r p)
 unfolding place_code

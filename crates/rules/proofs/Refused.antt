@@ -11,10 +11,9 @@ use Rattle.rules.specs.Collector.{collect}
 use Rattle.rules.specs.Steps.{step, code_of}
 use Rattle.rules.specs.declared.Step.{Step}
 use Rattle.rules.specs.Places.{Walk}
-use Rattle.std.specs.Prelude.{Ok, Err}
+use Rattle.std.specs.Prelude.{Ok, Err, Some, None}
 use Rattle.rules.proofs.PhaseSteps.{collect_comes}
 use Rattle.rules.specs.Records.{Owed}
-use Rattle.std.specs.Prelude.{Some, None}
 
 module _ (s : State) where
   abbrev Stays : Outcome → Type 0

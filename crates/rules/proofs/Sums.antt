@@ -19,12 +19,11 @@ use Rattle.rules.specs.Schedules.{collects}
 use Rattle.rules.specs.Changes.{differing, changes, changes_all}
 use Rattle.rules.specs.declared.Step.{Step}
 use Rattle.rules.specs.Places.{Walk}
-use Rattle.std.specs.Prelude.{Ok, Err}
+use Rattle.std.specs.Prelude.{Ok, Err, Some, None}
 use Rattle.rules.proofs.PhaseSteps.{collect_comes}
 use Rattle.rules.proofs.Laws.{unless_refused, step_collecting}
 use Rattle.rules.proofs.Changes.{unchanged, most_more}
 use Rattle.rules.specs.Records.{Owed}
-use Rattle.std.specs.Prelude.{Some, None}
 
 -- where code 1 or 2 is given, no step is done
 module _ (s : State) (h : check s ≡ 0 → ⊥) where

@@ -1,12 +1,12 @@
 -- [Codes 1] and [Codes 2]: the sizes and the record's test. [Order 5] Nothing else is judged.
 use Rattle.base.specs.Choice.{pick, every}
 use Rattle.std.specs.Prelude.{ℕ, ◌+◌, ◌-◌, ◌*◌, Bool, true, ◌||◌, not, List, [], ◌∷◌, ◌++◌, map, length, ltb, leb, eqb}
+use Rattle.std.specs.Prelude.{Some, None}
 use Rattle.rules.specs.Table.{State, FREE, most_nodes, most_slots}
 use Rattle.rules.specs.Phases.{roots_tag, scan_tag, tag_of, position, second, has_second}
 use Rattle.rules.specs.declared.Record.{Record}
 use Rattle.rules.specs.declared.Phase.{Phase}
 use Rattle.rules.specs.Records.{Owed}
-use Rattle.std.specs.Prelude.{Some, None}
 
 -- [Table 1] the ranges of M and R; [Codes 1] and each array has M entries. The lengths are those of
 -- the edges, and the colours'.

@@ -3,16 +3,14 @@
 -- under `first`; [Order 2] the walks; [Order 3] the rest of Take. [Order 4] `did` stands after
 -- every test.
 use Rattle.base.specs.Choice.{pick, every, first}
-use Rattle.std.specs.Prelude.{ℕ, ◌+◌, Bool, ◌||◌, [], ◌∷◌, ltb, leb, eqb}
+use Rattle.std.specs.Prelude.{ℕ, ◌+◌, Bool, ◌||◌, [], ◌∷◌, ltb, leb, eqb, Some, None}
 use Rattle.rules.specs.Table.{State, sides, Outcome, did, refuse_with, refuse, unless}
 use Rattle.rules.specs.Table.{NIL, FREE, left, edge, with_edge, shade, bad_colour}
-use Rattle.rules.specs.Records.{owing, paid, with_last, less_free}
+use Rattle.rules.specs.Records.{Owed, owing, paid, with_last, less_free}
 use Rattle.rules.specs.Check.{check}
 use Rattle.rules.specs.Places.{place_code, walk, arrive}
 use Rattle.rules.specs.declared.Place.{Place}
 use Rattle.rules.specs.declared.Answer.TheVariants.{Named, Linked, Shaded, Taken}
-use Rattle.rules.specs.Records.{Owed}
-use Rattle.std.specs.Prelude.{Some, None}
 
 -- [Codes 10] a side that the table has
 unfoldable pub side_code : ℕ → ℕ → ℕ

@@ -1,11 +1,10 @@
 -- The record: how Fresh makes it, and how a step moves it. [Record 12] What is not told to change
 -- is as it was.
 use Rattle.base.specs.Choice.{pick}
-use Rattle.std.specs.Prelude.{ℕ, ◌+◌, ◌-◌, ◌%◌, ltb, eqb}
+use Rattle.std.specs.Prelude.{ℕ, ◌+◌, ◌-◌, ◌%◌, ltb, eqb, Option, Some, None}
 use Rattle.rules.specs.declared.Record.{Record}
 use Rattle.rules.specs.declared.Phase.{Phase}
 use Rattle.rules.specs.declared.Phase.TheVariants.{Roots, Scan, Append}
-use Rattle.std.specs.Prelude.{Option, Some, None}
 
 -- [Record 4] the shade owed: nothing, or a node
 abbrev pub Owed : Type 0

@@ -21,7 +21,7 @@ use Rattle.rules.specs.Steps.{code_of}
 use Rattle.rules.specs.declared.Record.{Record}
 use Rattle.rules.specs.declared.Place.{Place}
 use Rattle.rules.specs.Places.{Walk}
-use Rattle.std.specs.Prelude.{Ok}
+use Rattle.std.specs.Prelude.{Ok, Some, None}
 use Rattle.rules.proofs.Walks.{slot_below}
 use Rattle.theory.specs.Reach as R
 use R.{Reach, Slot}
@@ -36,7 +36,6 @@ use Rattle.runs.proofs.Codes.{allowed, AllAllowed, allowed_first}
 use Rattle.runs.proofs.Ready.{owes, state_in, abs, top, InLimits, Ready, good_edge_lem}
 use Rattle.runs.proofs.Answers.{act, named, counts}
 use Rattle.rules.specs.Records.{Owed}
-use Rattle.std.specs.Prelude.{Some, None}
 
 -- an editor's step leaves the collector's part of the record
 pub record Same (x y : Record) : Type 0 where
