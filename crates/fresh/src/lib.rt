@@ -19,43 +19,19 @@ fn link_free(left: &mut [u16], m: u16, r: u16) -> u16
     ensures left_value { tabulate (fresh_left m r) (r + 2) ++ drop (r + 2) left.new
         ≡ tabulate (fresh_left m r) m }
 {
-    let roots = r + 2;
-    if m <= roots {
-        return 0;
+    let mut next = 0;
+    for node in (r + 2..m).rev() {
+        left[usize::from(node)] = next;
+        next = node;
     }
-    let mut node = m - 1;
-    let last = node as usize;
-    left[last] = 0;
-    while roots < node {
-        let next = node;
-        node -= 1;
-        let at = node as usize;
-        left[at] = next;
-    }
-    node
-}
-
-// Clears the first n edges.
-fn clear(edges: &mut [u16], n: u16)
-    requires { n ≤ length edges.old }
-    ensures { edges.new ≡ tabulate no_edge n ++ drop n edges.old }
-{
-    let mut i = n as usize;
-    while 0 < i {
-        i -= 1;
-        edges[i] = 0;
-    }
+    next
 }
 
 // Makes every node white.
 pub fn whiten(colour: &mut [u8])
     ensures { colour.new ≡ tabulate all_white (length colour.old) }
 {
-    let mut n = colour.len();
-    while 0 < n {
-        n -= 1;
-        colour[n] = 0;
-    }
+    colour.fill(0);
 }
 
 // Writes every node, from the top. FREE leads to the first free node; to NIL if none is free.
@@ -69,10 +45,9 @@ fn fill(left: &mut [u16], right: &mut [u16], colour: &mut [u8], m: u16, r: u16)
         ≡ fresh_state 2 m r }
 {
     let first = link_free(left, m, r);
-    let roots = r + 2;
-    clear(left, roots);
+    left[..usize::from(r + 2)].fill(0);
     left[1] = first;
-    clear(right, m);
+    right.fill(0);
     whiten(colour);
 }
 
@@ -82,10 +57,7 @@ fn last_of(m: u16, r: u16) -> u16
     requires r_le_most_slots { r ≤ most_slots }
     ensures { result ≡ fresh_last m r }
 {
-    if r + 2 < m {
-        return m - 1;
-    }
-    1
+    if r + 2 < m { m - 1 } else { 1 }
 }
 
 // A fresh table of m nodes and r slots, and its record. Refused: 1.
