@@ -29,12 +29,7 @@ bounds-colour-i-2 c =
     let g = at _ _ _ _ _ c.requires.can_append.passes in omega arith
 
 pub returns-then-colour-i-ne0 : goal.returns-then-colour-i-ne0
-returns-then-colour-i-ne0 c =
-    (omega arith, stays _ _ _ _ _ c.requires.can_append.passes)
-
-pub returns-then-i-last : goal.returns-then-i-last
-returns-then-i-last c =
-    (omega arith, stays _ _ _ _ _ c.requires.can_append.passes)
+returns-then-colour-i-ne0 c = stays _ _ _ _ _ c.requires.can_append.passes
 
 pub offset_bounds-left-i : goal.offset_bounds-left-i
 offset_bounds-left-i c =

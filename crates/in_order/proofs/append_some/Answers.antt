@@ -4,8 +4,8 @@ use native.Mathlib.Omega.{arith}
 use Rattle.in_order.proofs.Sweeps.{at, nearer, stays}
 use Rattle.in_order.proofs.append_some.Goals as goal
 
-pub returns-then-i-x : goal.returns-then-i-x
-returns-then-i-x c =
+pub returns-then-s-from : goal.returns-then-s-from
+returns-then-s-from c =
     let can = c.requires in
     (can.low, stays _ _ _ _ _ can.passes)
 
