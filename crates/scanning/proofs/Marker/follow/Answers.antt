@@ -4,33 +4,22 @@ use mathlib.Core.Path.{refl}
 use native.Mathlib.Omega.{arith}
 use Rattle.scanning.proofs.Marks.{at, stays}
 use Rattle.scanning.proofs.Chains.{begins_chain}
-use Rattle.scanning.proofs.follow.Goals as goal
-
-pub one_gray-requires : goal.one_gray-requires
-one_gray-requires c = let p = c.requires.valid in
-    let h = at _ _ _ _ _ p.passes in
-    let t = p.grayed in let d = p.within in record {
-      grayed_in_bounds = omega arith;
-      m_le_most_nodes = omega arith;
-      d_le_cap = omega arith;
-    }
+use Rattle.scanning.proofs.Marker.follow.Goals as goal
 
 pub returns-then-not-one_gray : goal.returns-then-not-one_gray
-returns-then-not-one_gray c = stays _ _ _ _ _ _ c.requires.valid
+returns-then-not-one_gray c = stays _ _ _ _ _ _ c.requires
 
 pub before-requires : goal.before-requires
-before-requires c = let p = c.requires.valid in
-    let h = at _ _ _ _ _ p.passes in
-    omega arith
+before-requires c = let h = at _ _ _ _ _ c.requires.passes in omega (arith, h.sizes)
 
 pub follow_left-q-requires : goal.follow_left-q-requires
-follow_left-q-requires c = let p = c.requires.valid in
-    let h = at _ _ _ _ _ p.passes in
+follow_left-q-requires c =
+    let h = at _ _ _ _ _ c.requires.passes in
+    let n = h.sizes.colours in
     let o = c.one_gray.ensures c.if-not-one_gray.false in record {
-      room = c.requires.room;
       one_gray = o;
-      follows = begins_chain _ _ _ _ _ _ _ p c.requires.room o c.before-2.ensures.0
-          c.before-2.ensures.1 refl refl refl;
+      follows = begins_chain _ _ _ _ _ _ _ c.requires c.args.self.room o
+          (rw n at c.before-2.ensures.0) c.before-2.ensures.1 refl refl refl;
     }
 
 pub overflow_add-q : goal.overflow_add-q
@@ -72,9 +61,11 @@ overflow_add-result c = let f = c.follow_left-q.ensures
     let g = at _ _ _ _ _ v.passes in
     let last = f.last in
     let low = f.low in
-    let p = c.requires.valid in
+    let p = c.requires in
     let h = at _ _ _ _ _ p.passes in
     let d = p.told in let w = p.within in omega arith
 
 pub returns : goal.returns
-returns c = rw c.around.ensures c.follow_left-q.ensures.leads
+returns c =
+    let h = at _ _ _ _ _ c.requires.passes in
+    rw (c.around.ensures, h.sizes.colours) c.follow_left-q.ensures.leads

@@ -4,31 +4,31 @@
 use mathlib.Core.Path.{refl}
 use native.Mathlib.Omega.{arith}
 use Rattle.scanning.proofs.Marks.{at, one, visits}
-use Rattle.scanning.proofs.visit.Goals as goal
+use Rattle.scanning.proofs.Marker.visit.Goals as goal
 
-pub offset_bounds-left-i : goal.offset_bounds-left-i
-offset_bounds-left-i c = let g =
+pub offset_bounds-self-s : goal.offset_bounds-self-s
+offset_bounds-self-s c = let g =
     at _ _ _ _ _ c.requires.valid.passes in
     let o = one _ _ _ _ _ _ c.requires.valid
     c.requires.can_visit in
     omega (arith, c.requires.valid.most)
 
-pub bounds-left-i : goal.bounds-left-i
-bounds-left-i c = let g =
+pub bounds-self-s : goal.bounds-self-s
+bounds-self-s c = let g =
     at _ _ _ _ _ c.requires.valid.passes in
     let o = one _ _ _ _ _ _ c.requires.valid
     c.requires.can_visit in
     omega (arith, c.requires.valid.most)
 
-pub offset_bounds-right-i : goal.offset_bounds-right-i
-offset_bounds-right-i c = let g =
+pub offset_bounds-self-s-2 : goal.offset_bounds-self-s-2
+offset_bounds-self-s-2 c = let g =
     at _ _ _ _ _ c.requires.valid.passes in
     let o = one _ _ _ _ _ _ c.requires.valid
     c.requires.can_visit in
     omega (arith, c.requires.valid.most)
 
-pub bounds-right-i : goal.bounds-right-i
-bounds-right-i c =
+pub bounds-self-s-2 : goal.bounds-self-s-2
+bounds-self-s-2 c =
     let g = at _ _ _ _ _ c.requires.valid.passes in
     let o = one _ _ _ _ _ _ c.requires.valid c.requires.can_visit in
     omega (arith, c.requires.valid.most)
@@ -43,8 +43,8 @@ spread-grayed-requires c =
       i_value = c.requires.can_visit.gray;
     }
 
-pub overflow_add-i : goal.overflow_add-i
-overflow_add-i c =
+pub overflow_add-s : goal.overflow_add-s
+overflow_add-s c =
     let g = at _ _ _ _ _ c.requires.valid.passes in
     let o = one _ _ _ _ _ _ c.requires.valid c.requires.can_visit in
     omega (arith, c.requires.valid.most)
@@ -92,9 +92,14 @@ overflow_add-result-5 c =
 pub returns : goal.returns
 returns c =
     let g = at _ _ _ _ _ c.requires.valid.passes in
+    let n = g.sizes.colours in
     let spread = c.spread-grayed.ensures in
-    visits _ _ _ _ _ _ c.requires.valid c.requires.can_visit c.requires.room _ _ _
-    spread.more_bound.1.1.0 (omega arith) spread.more_bound.1.1.1 spread.more_bound.0
-    c.around.ensures refl refl refl refl
-    (spread.more_bound.1.0 _ c.requires.can_visit.left.below c.requires.can_visit.right.below) refl
-    spread.more_value
+    record {
+      leads = visits _ _ _ _ _ _ c.requires.valid c.requires.can_visit c.args.self.room _ _ _
+          spread.more_bound.1.1.0 (omega arith) spread.more_bound.1.1.1 spread.more_bound.0
+          (rw n at c.around.ensures) n refl refl refl
+          (spread.more_bound.1.0 _ c.requires.can_visit.left.below
+          c.requires.can_visit.right.below) refl
+          spread.more_value;
+      six = refl;
+    }
