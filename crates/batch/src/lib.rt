@@ -34,23 +34,19 @@ fn stride(left: &mut [u16], right: &mut [u16], colour: &mut [u8], x: Record, cap
         result.changed
         (state left.new right.new colour.new result.rec) }
 {
+    let none = Ahead {
+        d: 0,
+        changed: 0,
+        rec: x,
+    };
     if cap == 0 {
-        return Ahead {
-            d: 0,
-            changed: 0,
-            rec: x,
-        };
+        return none;
     }
-    let phase = x.phase;
-    match phase {
+    match x.phase {
         Phase::Roots(i) => in_order::roots(left, right, colour, x, i, cap),
         Phase::Scan(i, k) => scanning::scans(left, right, colour, x, i, k, cap),
         Phase::Append(i) => in_order::appends(left, right, colour, x, i, cap),
-        _ => Ahead {
-            d: 0,
-            changed: 0,
-            rec: x,
-        },
+        _ => none,
     }
 }
 
@@ -70,18 +66,13 @@ fn stride_and_step(
         result.changed result.answer (state left.new right.new colour.new result.rec) }
 {
     let near = b - 1 - x.steps;
-    let l = stride(left, right, colour, x, ahead::least(most, near as usize));
-    let y = l.rec;
-    let phase = y.phase;
-    let made = collector::phase_step(left, right, colour, y, phase);
-    let answer = made.answer;
-    let rec = made.rec;
-    let last = made.changed;
+    let l = stride(left, right, colour, x, most.min(near as usize));
+    let made = collector::phase_step(left, right, colour, l.rec, l.rec.phase);
     Many {
         done: l.d,
-        answer,
-        changed: l.changed + last as usize,
-        rec,
+        answer: made.answer,
+        changed: l.changed + usize::from(made.changed),
+        rec: made.rec,
     }
 }
 
@@ -90,10 +81,7 @@ fn stride_and_step(
 fn ended(done: usize, n: usize, a: Answer) -> Answer
     ensures { (done < n → result ≡ refused 2 0) × (n ≤ done → result ≡ a) }
 {
-    if done < n {
-        return Answer::refused(2, 0);
-    }
-    a
+    if done < n { Answer::refused(2, 0) } else { a }
 }
 
 // n steps, from a record that passes.
@@ -113,40 +101,31 @@ pub fn all_steps(
     ensures changed_value { result.changed
         ≡ changes_all (collects n) (given left.old right.old colour.old x) }
 {
-    let mut rec = x;
-    let mut answer = Answer::Named(0);
-    let mut done = 0;
-    let mut changed = 0;
-    while done < n {
-        let gone = stride_and_step(left, right, colour, rec, b, n - done - 1);
-        rec = gone.rec;
-        answer = gone.answer;
-        done += gone.done;
-        changed += gone.changed;
-        if answer.code() != 0 {
-            return Many {
-                done,
-                answer,
-                changed,
-                rec,
-            };
+    let mut run = Many {
+        done: 0,
+        answer: Answer::Named(0),
+        changed: 0,
+        rec: x,
+    };
+    while run.done < n {
+        let gone = stride_and_step(left, right, colour, run.rec, b, n - run.done - 1);
+        run = Many {
+            done: run.done + gone.done,
+            changed: run.changed + gone.changed,
+            ..gone
+        };
+        if run.answer.code() != 0 {
+            return run;
         }
-        done += 1;
-        if !rules::in_limits(rec, b) {
+        run.done += 1;
+        if !rules::in_limits(run.rec, b) {
             return Many {
-                done,
-                answer: ended(done, n, answer),
-                changed,
-                rec,
+                answer: ended(run.done, n, run.answer),
+                ..run
             };
         }
     }
-    Many {
-        done,
-        answer,
-        changed,
-        rec,
-    }
+    run
 }
 
 // n steps of the collector, or as many as are done before one is refused.

@@ -31,8 +31,8 @@ phase_step-made-requires c = record {
 pub overflow_add-result : goal.overflow_add-result
 overflow_add-result c =
     let steps = steps_in _ _ _ _ _ c.requires.passes c.requires.b_value in
-    let near = small _ _ c.requires.passes (room _ _ c.least.result c.requires.b_value
-    (omega (arith, steps, c.least.ensures.1))) in
+    let near = small _ _ c.requires.passes (room _ _ c.min.result c.requires.b_value
+    (omega (arith, steps, c.min.ensures))) in
     let few = stepped_few _ _ _ _ _ _ c.stride-l.ensures.1
     c.phase_step-made.ensures.colour_value c.phase_step-made.ensures.changed_value in
     omega (arith, near, few, c.stride-l.ensures.0)
@@ -40,6 +40,6 @@ overflow_add-result c =
 pub returns : goal.returns
 returns c = (
   omega arith,
-  stepped _ _ _ _ _ _ _ c.requires.b_value c.stride-l.ensures.1 refl
-      c.phase_step-made.ensures.colour_value c.phase_step-made.ensures.changed_value,
+  rw c.from.ensures (stepped _ _ _ _ _ _ _ c.requires.b_value c.stride-l.ensures.1 refl
+      c.phase_step-made.ensures.colour_value c.phase_step-made.ensures.changed_value),
 )
