@@ -12,7 +12,8 @@ use Rattle.base.proofs.Tests.{pick_yes, pick_no}
 use Rattle.rules.specs.Table.{state}
 use Rattle.rules.specs.declared.Record.{Record}
 use Rattle.text.specs.Answers.{written, put_all, said}
-use Rattle.text.specs.declared.Listed.TheVariants.{Edges}
+use Rattle.std.specs.Prelude.{Some}
+use Rattle.text.specs.declared.Edges.{Edges}
 use Rattle.lines.specs.Lines.{prints, loaded}
 use Rattle.session.specs.Feeding.{Stand, standing, filled, noting}
 use Rattle.session.specs.declared.Run.{Run}
@@ -67,17 +68,17 @@ module _ (g : Run) (m code node used : ℕ) (l k c l' k' c' ls rs out out' : Lis
       go false = rw (e.left, e.right, e.colour)
 
 -- line n of an export has these edges
-module _ (m n a b : ℕ) (g : Run) (l k c ls rs ls' rs' line out : List ℕ)
-    (p : ls' ≡ set ls n a) (q : rs' ≡ set rs n b) where
+module _ (m n : ℕ) (e : Edges) (g : Run) (l k c ls rs ls' rs' line out : List ℕ)
+    (p : ls' ≡ set ls n e.left) (q : rs' ≡ set rs n e.right) where
   pub noted_more : true ≡ ltb (n + 1) g.rec.m
       → standing (Loading m (n + 1)) (record { rec = g.rec; at = 0; used = g.used }) l k c ls' rs'
       line out
-      ≡ noting m n (Edges a b) (standing (Serving m) g l k c ls rs line out)
+      ≡ noting m n (Some e) (standing (Serving m) g l k c ls rs line out)
   unfolding standing noting
   noted_more h = rw (p, q) (pick_yes _ _ _ _ h refl)
 
   pub noted_last : false ≡ ltb (n + 1) g.rec.m → (t : Stand)
       → t ≡ filled m (standing (Serving m) g l k c ls' rs' line out)
-      → t ≡ noting m n (Edges a b) (standing (Serving m) g l k c ls rs line out)
+      → t ≡ noting m n (Some e) (standing (Serving m) g l k c ls rs line out)
   unfolding standing noting
-  noted_last h t e = pick_no _ _ _ _ h (e ∙ rw (p, q))
+  noted_last h t f = pick_no _ _ _ _ h (f ∙ rw (p, q))

@@ -13,7 +13,7 @@ ghost use Rattle.rules.specs.Lent.{given};
 use lines::Told;
 use rules::Record;
 use session::{Run, Session, Stage};
-use text::Listed;
+use text::Edges;
 
 // Whether the first at bytes of the line begin an export.
 pub fn is_export(line: &[u8], at: usize) -> bool
@@ -132,7 +132,7 @@ fn more(m: u16, n: usize) -> bool
 }
 
 // What the first at bytes of the line say, as line n of an export.
-fn entry_of(line: &[u8], at: usize, n: usize) -> Listed
+fn entry_of(line: &[u8], at: usize, n: usize) -> Option<Edges>
     ensures { result ≡ entry (take at line.now) n }
 {
     let end = session::least(at, line.len());
@@ -160,8 +160,8 @@ pub fn load_line(
     let listed = entry_of(line, g.at, n);
     let rec = g.rec;
     match listed {
-        Listed::Edges(l, r) => {
-            note(lefts, rights, n, l, r);
+        Some(edges) => {
+            note(lefts, rights, n, edges.left, edges.right);
             if more(rec.m, n) {
                 let run = Run {
                     rec,
@@ -173,6 +173,6 @@ pub fn load_line(
             }
             fill(left, right, colour, lefts, rights, out, g, m)
         }
-        Listed::Stray => stop(out, g, m),
+        None => stop(out, g, m),
     }
 }

@@ -2,13 +2,12 @@
 -- is in buffers: the program's own tables, the lists of an export's edges, the line at hand and the
 -- output.
 use Rattle.base.specs.Choice.{pick}
-use Rattle.std.specs.Prelude.{ℕ, ◌+◌, Bool, true, false, List, [], ◌∷◌, ◌++◌, get_or, set, take, drop, ltb, eqb}
+use Rattle.std.specs.Prelude.{ℕ, ◌+◌, Bool, true, false, List, [], ◌∷◌, ◌++◌, get_or, set, take, drop, ltb, eqb, Option, Some, None}
 use Rattle.rules.specs.Table.{State, state}
 use Rattle.rules.specs.Records.{fresh_record}
 use Rattle.text.specs.Grammar.{read, is_export, entry}
 use Rattle.text.specs.Answers.{Written, written, contents, put_all, said}
-use Rattle.text.specs.declared.Listed.{Listed}
-use Rattle.text.specs.declared.Listed.TheVariants.{Edges, Stray}
+use Rattle.text.specs.declared.Edges.{Edges}
 use Rattle.lines.specs.Lines.{Line, prints, later, opened, loaded}
 use Rattle.session.specs.declared.Run.{Run}
 use Rattle.session.specs.declared.Session.{Session}
@@ -162,12 +161,12 @@ abbrev pub dropped : Going → Going
 dropped g = record { state = g.state; line = written g.line.out 0; out = g.out }
 
 -- line n of an export is at its end
-unfoldable pub noting : ℕ → ℕ → Listed → Stand → Stand
-noting m n (Edges l r) s =
+unfoldable pub noting : ℕ → ℕ → Option Edges → Stand → Stand
+noting m n (Some e) s =
     pick (ltb (n + 1) s.going.state.rec.m)
-    (moved (Loading m (n + 1)) (dropped s.going) (noted n l r s))
-    (filled m (noted n l r s))
-noting m n Stray s = stopped m s
+    (moved (Loading m (n + 1)) (dropped s.going) (noted n e.left e.right s))
+    (filled m (noted n e.left e.right s))
+noting m n None s = stopped m s
 
 -- the line at hand is at its end
 unfoldable pub line_ended : Stage → Stand → Stand

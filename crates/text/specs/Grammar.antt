@@ -2,7 +2,7 @@
 -- reads from a position and gives the position behind it: `lost` where the piece does not stand
 -- there, and at `lost` nothing stands.
 use Rattle.base.specs.Choice.{pick, every}
-use Rattle.std.specs.Prelude.{ℕ, zero, suc, ◌+◌, ◌-◌, ◌*◌, ◌%◌, Bool, List, [], ◌∷◌, length, get_or, ltb, leb, eqb}
+use Rattle.std.specs.Prelude.{ℕ, zero, suc, ◌+◌, ◌-◌, ◌*◌, ◌%◌, Bool, List, [], ◌∷◌, length, get_or, ltb, leb, eqb, Option, Some, None}
 use Rattle.rules.specs.declared.Place.{Place}
 use Rattle.rules.specs.Steps.{taking, linking, shading, looking}
 use Rattle.text.specs.Bytes.{bytes}
@@ -15,8 +15,7 @@ use Rattle.text.specs.declared.Spot.{Spot}
 use Rattle.text.specs.declared.Sizes.{Sizes}
 use Rattle.text.specs.declared.Form.{Form}
 use Rattle.text.specs.declared.Row.{Row}
-use Rattle.text.specs.declared.Listed.{Listed}
-use Rattle.text.specs.declared.Listed.TheVariants.{Edges, Stray}
+use Rattle.text.specs.declared.Edges.{Edges}
 
 -- the byte at a position; 256, which no byte is, past the end
 unfoldable pub byte_at : List ℕ → ℕ → ℕ
@@ -157,10 +156,10 @@ entry_line line =
     let r = number_at line (after line l.at (bytes " right=")) in
     record { node = n.value; left = l.value; right = r.value; at = r.at }
 
--- [Program 19] the edges of node n; Stray where the line is over 80 bytes, of another form or of
+-- [Program 19] the edges of node n; none where the line is over 80 bytes, of another form or of
 -- another node
-unfoldable pub entry : List ℕ → ℕ → Listed
+unfoldable pub entry : List ℕ → ℕ → Option Edges
 entry line n =
     pick (every (leb (length line) longest ∷ ends line (entry_line line).at
     ∷ eqb (entry_line line).node n ∷ []))
-    (Edges (entry_line line).left (entry_line line).right) Stray
+    (Some (record { left = (entry_line line).left; right = (entry_line line).right })) None

@@ -91,11 +91,11 @@ pub struct Row {
     pub at: usize,
 }
 
-// What a line of an export says: the edges of the node that is due, or anything else.
+// The edges of a node, as a line of an export lists them.
 #[derive(Clone, Copy)]
-pub enum Listed {
-    Edges(u32, u32),
-    Stray,
+pub struct Edges {
+    pub left: u32,
+    pub right: u32,
 }
 
 // The byte at a position; 256 past the end.
@@ -394,23 +394,26 @@ fn entry_line(line: &[u8]) -> Row
     }
 }
 
-// What the line of an export says where the edges of node n are due.
-pub fn entry(line: &[u8], n: usize) -> Listed
+// The edges in the line of an export where those of node n are due; None of any other line.
+pub fn entry(line: &[u8], n: usize) -> Option<Edges>
     ensures { result ≡ entry line.now n }
 {
     let end = line.len();
     if LONGEST < end {
-        return Listed::Stray;
+        return None;
     }
     let e = entry_line(line);
     if e.at != end {
-        return Listed::Stray;
+        return None;
     }
     let node = e.node;
     if node as usize != n {
-        return Listed::Stray;
+        return None;
     }
-    Listed::Edges(e.left, e.right)
+    Some(Edges {
+        left: e.left,
+        right: e.right,
+    })
 }
 
 // One byte more of the output, where there is room; answers how much is used.

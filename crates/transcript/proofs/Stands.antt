@@ -12,8 +12,8 @@ use Rattle.base.specs.Choice.{pick}
 use Rattle.base.proofs.Tests.{pick_yes, pick_no, eq_yes}
 use Rattle.text.specs.Grammar.{is_export, entry}
 use Rattle.text.specs.Answers.{Written, written, contents, put_all}
-use Rattle.text.specs.declared.Listed.{Listed}
-use Rattle.text.specs.declared.Listed.TheVariants.{Edges, Stray}
+use Rattle.std.specs.Prelude.{Option, Some, None}
+use Rattle.text.specs.declared.Edges.{Edges}
 use Rattle.session.specs.Feeding.{newline, fold, Going, gathered, ended, newline_from, Stand}
 use Rattle.session.specs.Feeding.{standing, moved, turned, begun, stopped, filled, noting}
 use Rattle.session.specs.Feeding.{line_ended, is_over, eaten, eats, emptied, block, bare, closed}
@@ -40,11 +40,11 @@ leads_all : (i : ℕ) (input : List ℕ) (s t : Stand) → i < length input
 leads_all i input s t h e = record { gains = h; same = sym e ∙ none_left input t }
 
 -- what an export's line does is the same in each stage
-same_noting : (m n : ℕ) (x : Listed) (st st' : Stage) (s : Stand)
+same_noting : (m n : ℕ) (x : Option Edges) (st st' : Stage) (s : Stand)
     → noting m n x (moved st s.going s) ≡ noting m n x (moved st' s.going s)
 unfolding noting filled stopped
-same_noting m n (Edges a b) st st' s = refl
-same_noting m n Stray st st' s = refl
+same_noting m n (Some e) st st' s = refl
+same_noting m n None st st' s = refl
 
 newline_eaten : (s : Stand) (b : ℕ) → b ≡ newline → is_over s.stage ≡ false
     → line_ended s.stage s ≡ eats s b

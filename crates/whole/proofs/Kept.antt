@@ -12,7 +12,7 @@ use lib.Dec.{leb, eqb}
 use Rattle.base.proofs.Tests.{pick_yes, pick_no, every_here, lt_yes, le_no}
 use Rattle.text.specs.Bytes.{bytes}
 use Rattle.text.specs.declared.Said.TheVariants.{Unreadable}
-use Rattle.text.specs.declared.Listed.TheVariants.{Stray}
+use Rattle.std.specs.Prelude.{None}
 use Rattle.text.specs.Grammar.{longest, byte_at, after, read, is_export, entry}
 use Rattle.whole.specs.Transcript.{Awaits, opening, second, export, steps, nothing}
 use Rattle.whole.specs.Transcript.{answer, bare, reads}
@@ -22,7 +22,7 @@ pub long : (w : List ℕ) → longest < length w → Unreadable ≡ read w
 unfolding read
 long w h = pick_yes _ _ _ _ (lt_yes _ _ h) refl
 
-long_entry : (w : List ℕ) (n : ℕ) → longest < length w → Stray ≡ entry w n
+long_entry : (w : List ℕ) (n : ℕ) → longest < length w → None ≡ entry w n
 unfolding entry
 long_entry w n h = pick_no _ _ _ _ (every_here _ _ (le_no _ _ h)) refl
 
@@ -48,7 +48,7 @@ read_kept : (w : List ℕ) → read (take keeps w) ≡ read w
 read_kept w = same_kept read Unreadable long w
 
 entry_kept : (w : List ℕ) (n : ℕ) → entry (take keeps w) n ≡ entry w n
-entry_kept w n = same_kept (λ w. entry w n) Stray (λ w. long_entry w n) w
+entry_kept w n = same_kept (λ w. entry w n) None (λ w. long_entry w n) w
 
 after_kept : (w : List ℕ) (i : ℕ) (word : List ℕ) → i + length word ≤ keeps
     → after (take keeps w) i word ≡ after w i word

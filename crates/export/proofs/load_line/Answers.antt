@@ -12,18 +12,18 @@ overflow_add-stage c =
 
 pub returns-then-more : goal.returns-then-more
 returns-then-more c =
-    rw (← c.entry_of-listed.ensures, c.in-Edges.is)
-    (noted_more _ _ _ _ _ _ _ _ _ _ _ _ _ _ c.note.ensures.0 c.note.ensures.1
+    rw (← c.entry_of-listed.ensures, c.in-Some.is)
+    (noted_more _ _ _ _ _ _ _ _ _ _ _ _ _ c.note.ensures.0 c.note.ensures.1
     (sym c.if-more.true ∙ c.more.ensures.0))
 
 pub returns-else-more : goal.returns-else-more
 returns-else-more c =
-    rw (← c.entry_of-listed.ensures, c.in-Edges.is)
-    (noted_last _ _ _ _ _ _ _ _ _ _ _ _ _ _ c.note.ensures.0 c.note.ensures.1
+    rw (← c.entry_of-listed.ensures, c.in-Some.is)
+    (noted_last _ _ _ _ _ _ _ _ _ _ _ _ _ c.note.ensures.0 c.note.ensures.1
     (sym c.if-more.false ∙ c.more.ensures.0) _ (c.fill.ensures _))
 
-pub returns-in-Stray : goal.returns-in-Stray
+pub returns-in-None : goal.returns-in-None
 unfolding noting
-returns-in-Stray c =
-    rw (← c.entry_of-listed.ensures, c.in-Stray.is)
+returns-in-None c =
+    rw (← c.entry_of-listed.ensures, c.in-None.is)
     (c.stop.ensures _ _ _ _ _ _)
