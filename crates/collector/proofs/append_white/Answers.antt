@@ -22,8 +22,8 @@ unfolding append_white
 returns-then-i-x-2 c =
     record { by_index = λ l. rw c.refusal_with-then-i-x-2.ensures (search (tests, rules) depth 12); changed_value = rw c.refusal_with-then-i-x-2.ensures }
 
-pub bounds-left-end : goal.bounds-left-end
-bounds-left-end c =
+pub bounds-left-from : goal.bounds-left-from
+bounds-left-from c =
     let inside : c.args.x.last < length c.args.left.now =
     omega (arith, c.requires) in
     search rules

@@ -1,7 +1,9 @@
 -- In each arm the phase is known, and the definition at it is the arm's call. What the call asks
 -- follows from the record's test and the phase's numbers.
 use mathlib.Core.Path.{refl, ◌∙◌}
+use mathlib.Core.List.{[], ◌∷◌}
 use native.Mathlib.Omega.{arith}
+use Rattle.rules.specs.Table.{edge_of}
 use Rattle.rules.specs.Collector.{phase_step}
 use Rattle.rules.proofs.Changes.{unchanged}
 use Rattle.collector.proofs.phase_step.Goals as goal
@@ -18,18 +20,10 @@ pub scan_step-requires : goal.scan_step-requires
 scan_step-requires c =
     let h = rw c.in-Scan.is at c.requires.in_range in omega arith
 
-pub edge-e-requires : goal.edge-e-requires
-edge-e-requires c =
-    let h = rw c.in-Left.is at c.requires.in_range in omega arith
-
 pub shade_step-requires-in-ShadeLeft : goal.shade_step-requires-in-ShadeLeft
 shade_step-requires-in-ShadeLeft c =
     let h = rw c.in-ShadeLeft.is at c.requires.in_range in
     let read = h.2 refl in omega arith
-
-pub edge-e-requires-in-Right : goal.edge-e-requires-in-Right
-edge-e-requires-in-Right c =
-    let h = rw c.in-Right.is at c.requires.in_range in omega arith
 
 pub shade_step-requires-in-ShadeRight : goal.shade_step-requires-in-ShadeRight
 shade_step-requires-in-ShadeRight c =
@@ -56,12 +50,12 @@ unfolding phase_step
 returns-in-Scan c = record { colour_value = rw c.in-Scan.is (c.scan_step.ensures.by_index _); changed_value = c.scan_step.ensures.changed_value ∙ unchanged _ }
 
 pub returns-in-Left : goal.returns-in-Left
-unfolding phase_step
-returns-in-Left c = record {
-  colour_value = rw (c.in-Left.is, ← c.edge-e.ensures)
-      (c.read_step.ensures.by_index _ _);
-  changed_value = c.read_step.ensures.changed_value ∙ unchanged _;
-}
+unfolding phase_step edge_of
+returns-in-Left c =
+    let read = c.read_step.ensures.by_index (c.args.left.now ∷ c.args.right.now ∷ []) c.args.colour.now in record {
+      colour_value = rw c.in-Left.is (rw c.from.ensures at read);
+      changed_value = c.read_step.ensures.changed_value ∙ unchanged _;
+    }
 
 pub returns-in-ShadeLeft : goal.returns-in-ShadeLeft
 unfolding phase_step
@@ -70,12 +64,12 @@ returns-in-ShadeLeft c =
     record { colour_value = rw c.in-ShadeLeft.is (done.by_index _); changed_value = done.changed_value }
 
 pub returns-in-Right : goal.returns-in-Right
-unfolding phase_step
-returns-in-Right c = record {
-  colour_value = rw (c.in-Right.is, ← c.edge-e-in-Right.ensures)
-      (c.read_step-in-Right.ensures.by_index _ _);
-  changed_value = c.read_step-in-Right.ensures.changed_value ∙ unchanged _;
-}
+unfolding phase_step edge_of
+returns-in-Right c =
+    let read = c.read_step-in-Right.ensures.by_index (c.args.left.now ∷ c.args.right.now ∷ []) c.args.colour.now in record {
+      colour_value = rw c.in-Right.is (rw c.from-in-Right.ensures at read);
+      changed_value = c.read_step-in-Right.ensures.changed_value ∙ unchanged _;
+    }
 
 pub returns-in-ShadeRight : goal.returns-in-ShadeRight
 unfolding phase_step
