@@ -15,11 +15,11 @@ use Rattle.rules.proofs.Phases.{phase_back, phase_there}
 use Rattle.rules.specs.Phases.{tag_of, position, second}
 use Rattle.rules.specs.Records.{with_owed, with_last, with_free}
 use Rattle.rules.specs.declared.Record.{Record}
-use Rattle.record_words.specs.Words.{word, owes_of, owed_of, laid_out, words_of}
+use Rattle.record_words.specs.Words.{word, owes_of, owed_of, words_of, moved}
 use Rattle.record_words.specs.Words.{shade_of}
 use Rattle.record_words.specs.Words.{record_of, flagged, is_record, Within, WORDS, USED, unused}
-use Rattle.record_words.specs.Words.{NODES, SLOTS, PHASE, I, K, OWES, OWED, LAST, STEPS}
-use Rattle.record_words.specs.Words.{CYCLES, TOOK, BLACKENED, LASTBLACKENED, FREECOUNT}
+use Rattle.record_words.specs.Words.{NODES, SLOTS, PHASE, I, K, OWES, OWED, LAST}
+use Rattle.record_words.specs.Words.{FREECOUNT}
 use Rattle.record_words.proofs.Widths.{widths, words_are, owes_most}
 use Rattle.rules.specs.Records.{Owed}
 use Rattle.std.specs.Prelude.{Some, None}
@@ -124,20 +124,10 @@ module _ (w : List ℕ) (e : true ≡ is_record w) (x : Record) where
   pub owed_most : x.owed ≡ (record_of w).owed → owed_of x.owed ≤ 65535
   owed_most h = omega (arith, old, ap owed_of h)
 
-  -- the words that a collector's step can change
-  abbrev moved : List ℕ → ℕ → ℕ → ℕ → List ℕ
-  moved v tag i k =
-      set (set (set (set (set (set (set (set (set (set v PHASE tag) I i) K k) LAST x.last) STEPS
-      x.steps) CYCLES x.cycles) TOOK x.took) BLACKENED x.blackened) LASTBLACKENED
-      x.lastblackened) FREECOUNT x.free
-
   pub step_stored : x.m ≡ (record_of w).m → x.r ≡ (record_of w).r → x.owed ≡ (record_of w).owed
-      → (tag i k : ℕ) → tag ≡ tag_of x.phase → i ≡ position x.phase → k ≡ second x.phase
-      → moved w tag i k ≡ words_of x
-  step_stored m r o tag i k p q z =
-      rw (p, q, z)
-      (ap (λ (v : List ℕ). moved v (tag_of x.phase) (position x.phase) (second x.phase))
-      (sym (words_back w e)) ∙ kept (sym m) (sym r) (sym o))
+      → moved w x ≡ words_of x
+  step_stored m r o =
+      ap (λ (v : List ℕ). moved v x) (sym (words_back w e)) ∙ kept (sym m) (sym r) (sym o)
     where
       all : ℕ → ℕ → Owed → List ℕ
       all nodes slots owed =
@@ -148,23 +138,18 @@ module _ (w : List ℕ) (e : true ≡ is_record w) (x : Record) where
       kept : {a b c d : ℕ} {f g : Owed} → a ≡ b → c ≡ d → f ≡ g → all a c f ≡ all b d g
       kept h i j = rw (h, i, j) refl
 
--- the words in use from the phase on, stored one after the other
-abbrev stored : List ℕ → Record → ℕ → ℕ → ℕ → ℕ → ℕ → List ℕ
-stored w x tag i k owes n =
-    set (set (set (set (set (set (set (set (set (set (set (set w PHASE tag) I i) K k) OWES owes)
-    OWED n) LAST x.last) STEPS x.steps) CYCLES x.cycles) TOOK x.took) BLACKENED
-    x.blackened) LASTBLACKENED x.lastblackened) FREECOUNT x.free
-
-pub all_stored : (w w₁ w₂ : List ℕ) → true ≡ is_record w → (x : Record) (tag i k owes n : ℕ)
-    → w₁ ≡ set w NODES x.m → w₂ ≡ set w₁ SLOTS x.r
-    → stored w₂ x tag i k owes n ≡ laid_out x tag i k owes n
+pub all_stored : (w w₁ w₂ : List ℕ) → true ≡ is_record w → (x : Record) (owes n : ℕ)
+    → w₁ ≡ set w NODES x.m → w₂ ≡ set w₁ SLOTS x.r → owes ≡ owes_of x.owed → n ≡ owed_of x.owed
+    → moved (set (set w₂ OWES owes) OWED n) x ≡ words_of x
 unfolding is_record
-all_stored w w₁ w₂ e x tag i k owes n p q =
+all_stored w w₁ w₂ e x owes n p q o d =
     let all = parts w WORDS 0 (sym (eqb-true (length w) WORDS (each _ e).0)) in
     let nodes = p ∙ ap (λ (v : List ℕ). set v NODES x.m) all in
     let slots = q ∙ ap (λ (v : List ℕ). set v SLOTS x.r) nodes in
-    ap (λ (v : List ℕ). stored v x tag i k owes n) slots
+    rw (o, d)
+    (ap (λ (v : List ℕ). moved (set (set v OWES (owes_of x.owed)) OWED (owed_of x.owed)) x) slots
     ∙ ap
-    (λ (v : List ℕ). x.m ∷ x.r ∷ tag ∷ i ∷ k ∷ owes ∷ n ∷ x.last ∷ x.steps ∷ x.cycles
+    (λ (v : List ℕ). x.m ∷ x.r ∷ tag_of x.phase ∷ position x.phase ∷ second x.phase
+    ∷ owes_of x.owed ∷ owed_of x.owed ∷ x.last ∷ x.steps ∷ x.cycles
     ∷ x.took ∷ x.blackened ∷ x.lastblackened ∷ x.free ∷ v)
-    (sym (idle w e))
+    (sym (idle w e)))

@@ -1,7 +1,7 @@
 -- [C 2] The record as 32-bit words, for callers that have no enums.
 use Rattle.base.specs.Choice.{pick, every}
 use Rattle.std.specs.Prelude.{ℕ, zero, suc, ◌-◌, ◌≤◌, Bool, true, List, [], ◌∷◌, leb, eqb}
-use Rattle.std.specs.Prelude.{length, get_or, replicate, Some, None}
+use Rattle.std.specs.Prelude.{length, get_or, set, replicate, Some, None}
 use Rattle.std.specs.Int.Bits.{bit_or}
 use Rattle.rules.specs.Check.{check_of}
 use Rattle.rules.specs.Phases.{most_tag, tag_of, position, second, has_second, phase_of}
@@ -85,6 +85,13 @@ abbrev pub words_of : Record → List ℕ
 words_of x =
     laid_out x (tag_of x.phase) (position x.phase) (second x.phase) (owes_of x.owed)
     (owed_of x.owed)
+
+-- the words where those that a collector's step can change have become those of x
+abbrev pub moved : List ℕ → Record → List ℕ
+moved w x =
+    set (set (set (set (set (set (set (set (set (set w PHASE (tag_of x.phase)) I
+    (position x.phase)) K (second x.phase)) LAST x.last) STEPS x.steps) CYCLES x.cycles) TOOK
+    x.took) BLACKENED x.blackened) LASTBLACKENED x.lastblackened) FREECOUNT x.free
 
 unfoldable pub shade_of : ℕ → ℕ → Owed
 shade_of owes n = pick (eqb owes 0) None (Some n)

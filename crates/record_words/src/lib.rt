@@ -3,11 +3,12 @@
 
 ghost use Rattle.std.specs.Prelude.{◌≡◌, true, not, [], ◌∷◌, ◌+◌, ◌<◌, ◌≤◌, ltb, eqb, set};
 ghost use Rattle.base.specs.Choice.{every};
-ghost use Rattle.record_words.specs.Words.{owes_of, owed_of, laid_out, words_of};
+ghost use Rattle.record_words.specs.Words.{owes_of, owed_of, words_of, moved};
 ghost use Rattle.record_words.specs.Words.{shade_of, picked_up, record_of, within, flagged};
 ghost use Rattle.record_words.specs.Words.{is_record, judged, Within, WORDS, word};
 ghost use Rattle.record_words.specs.Words.{NODES, SLOTS, narrow, spare};
 ghost use Rattle.rules.specs.Table.{most_nodes, most_slots, FREE};
+ghost use Rattle.rules.specs.Phases.{position, second};
 ghost use Rattle.rules.specs.Records.{with_owed, with_last, with_free};
 ghost use Rattle.rules.specs.Check.{position_ok, second_ok, last_ok, free_ok, counts_ok, record_ok};
 
@@ -59,59 +60,14 @@ fn owed(o: Option<u16>) -> u16
     o.unwrap_or(0)
 }
 
-fn laid_out(x: Record, tag: u32, i: u16, k: u16, owes: u32, n: u16) -> [u32; WORDS]
-    ensures { result ≡ laid_out x tag i k owes n }
-{
-    let m = x.m;
-    let r = x.r;
-    let last = x.last;
-    let blackened = x.blackened;
-    let lastblackened = x.lastblackened;
-    let free = x.free;
-    [
-        m as u32,
-        r as u32,
-        tag,
-        i as u32,
-        k as u32,
-        owes,
-        n as u32,
-        last as u32,
-        x.steps,
-        x.cycles,
-        x.took,
-        blackened as u32,
-        lastblackened as u32,
-        free as u32,
-        0,
-        0,
-        0,
-        0,
-        0,
-        0,
-        0,
-        0,
-        0,
-        0,
-    ]
-}
-
 // The record's words.
 pub fn words_of(x: Record) -> [u32; WORDS]
     ensures value { result ≡ words_of x }
     ensures true_value { true ≡ is_record result }
 {
-    let p = x.phase;
-    let o = x.owed;
-    let tag = rules::tag(p);
-    laid_out(
-        x,
-        tag,
-        rules::position(p),
-        rules::second(p),
-        owes(o),
-        owed(o),
-    )
+    let mut words = [0; WORDS];
+    put(&mut words, x);
+    words
 }
 
 // Stores a word, where it was another one. A call that loads two words at once would wait for a
@@ -120,57 +76,40 @@ fn keep(words: &mut [u32; WORDS], n: usize, v: u32)
     requires { n < WORDS }
     ensures { words.new ≡ set words.old n v }
 {
-    if words[n] == v {
-        return;
+    if words[n] != v {
+        words[n] = v;
     }
-    words[n] = v;
 }
 
-// Words that were a record's become these; those that have no use stay 0.
-fn lay(words: &mut [u32; WORDS], x: Record, tag: u32, i: u16, k: u16, owes: u32, n: u16)
-    requires { true ≡ is_record words.old }
-    ensures { words.new ≡ laid_out x tag i k owes n }
+// Stores the words that a collector's step can change.
+fn put_moved(words: &mut [u32; WORDS], x: Record)
+    ensures words_value { words.new ≡ moved words.old x }
+    ensures position_bound { position x.phase ≤ 65535 }
+    ensures second_bound { second x.phase ≤ 65535 }
 {
-    let m = x.m;
-    let r = x.r;
-    let last = x.last;
-    let blackened = x.blackened;
-    let lastblackened = x.lastblackened;
-    let free = x.free;
-    keep(words, NODES, m as u32);
-    keep(words, SLOTS, r as u32);
-    words[PHASE] = tag;
-    words[I] = i as u32;
-    words[K] = k as u32;
-    words[OWES] = owes;
-    words[OWED] = n as u32;
-    words[LAST] = last as u32;
+    words[PHASE] = rules::tag(x.phase);
+    words[I] = u32::from(rules::position(x.phase));
+    words[K] = u32::from(rules::second(x.phase));
+    words[LAST] = u32::from(x.last);
     words[STEPS] = x.steps;
     words[CYCLES] = x.cycles;
     words[TOOK] = x.took;
-    words[BLACKENED] = blackened as u32;
-    words[LASTBLACKENED] = lastblackened as u32;
-    words[FREECOUNT] = free as u32;
+    words[BLACKENED] = u32::from(x.blackened);
+    words[LASTBLACKENED] = u32::from(x.lastblackened);
+    words[FREECOUNT] = u32::from(x.free);
 }
 
-// Words that were a record's become those of this one.
+// Words that were a record's become those of this one; those that have no use stay 0.
 pub fn put(words: &mut [u32; WORDS], x: Record)
     requires { true ≡ is_record words.old }
     ensures words_value { words.new ≡ words_of x }
     ensures true_value { true ≡ is_record words.new }
 {
-    let p = x.phase;
-    let o = x.owed;
-    let tag = rules::tag(p);
-    lay(
-        words,
-        x,
-        tag,
-        rules::position(p),
-        rules::second(p),
-        owes(o),
-        owed(o),
-    );
+    keep(words, NODES, u32::from(x.m));
+    keep(words, SLOTS, u32::from(x.r));
+    words[OWES] = owes(x.owed);
+    words[OWED] = u32::from(owed(x.owed));
+    put_moved(words, x);
 }
 
 // The same for a record that differs from the words' only in what is owed.
@@ -180,10 +119,9 @@ pub fn put_owed(words: &mut [u32; WORDS], x: Record)
     ensures words_value { words.new ≡ words_of x }
     ensures true_value_2 { true ≡ is_record words.new }
 {
-    let o = x.owed;
-    let node = owed(o);
-    words[OWES] = owes(o);
-    words[OWED] = node as u32;
+    let node = owed(x.owed);
+    words[OWES] = owes(x.owed);
+    words[OWED] = u32::from(node);
 }
 
 // The same for one that differs only in the free list's last node and in the number of free nodes.
@@ -193,10 +131,9 @@ pub fn put_free(words: &mut [u32; WORDS], x: Record)
     ensures words_value { words.new ≡ words_of x }
     ensures true_value_2 { true ≡ is_record words.new }
 {
-    let node = x.last;
-    let count = x.free;
-    words[LAST] = node as u32;
-    words[FREECOUNT] = count as u32;
+    let Record { last, free, .. } = x;
+    words[LAST] = u32::from(last);
+    words[FREECOUNT] = u32::from(free);
 }
 
 // The same for one that does not differ in M, in R and in what is owed.
@@ -208,28 +145,12 @@ pub fn put_step(words: &mut [u32; WORDS], x: Record)
     ensures words_value { words.new ≡ words_of x }
     ensures true_value_2 { true ≡ is_record words.new }
 {
-    let p = x.phase;
-    let position = rules::position(p);
-    let second = rules::second(p);
-    let last = x.last;
-    let blackened = x.blackened;
-    let lastblackened = x.lastblackened;
-    let free = x.free;
-    words[PHASE] = rules::tag(p);
-    words[I] = position as u32;
-    words[K] = second as u32;
-    words[LAST] = last as u32;
-    words[STEPS] = x.steps;
-    words[CYCLES] = x.cycles;
-    words[TOOK] = x.took;
-    words[BLACKENED] = blackened as u32;
-    words[LASTBLACKENED] = lastblackened as u32;
-    words[FREECOUNT] = free as u32;
+    put_moved(words, x);
 }
 
 // All bits of the words of 16 bits.
-fn narrow(w: [u32; WORDS]) -> u32
-    ensures { result ≡ narrow w }
+fn narrow(w: &[u32; WORDS]) -> u32
+    ensures { result ≡ narrow w.now }
 {
     w[NODES]
         | w[SLOTS]
@@ -243,52 +164,31 @@ fn narrow(w: [u32; WORDS]) -> u32
 }
 
 // All bits of the words that have no use.
-fn spare(w: [u32; WORDS]) -> u32
-    ensures { result ≡ spare w }
+fn spare(w: &[u32; WORDS]) -> u32
+    ensures { result ≡ spare w.now }
 {
     w[14] | w[15] | w[16] | w[17] | w[18] | w[19] | w[20] | w[21] | w[22] | w[23]
 }
 
 // Whether each word has its width. The compiler loads several words at once only of those that no
 // step stores, M and R and the ones that have no use: else the load would wait for the stores.
-fn within(w: [u32; WORDS]) -> bool
-    ensures { result ≡ within w WORDS }
+fn within(w: &[u32; WORDS]) -> bool
+    ensures { result ≡ within w.now WORDS }
 {
-    if rules::MOST_TAG < w[PHASE] {
-        return false;
-    }
-    if 1 < w[OWES] {
-        return false;
-    }
-    if 65535 < narrow(w) {
-        return false;
-    }
-    if 4294967295 < w[STEPS] | w[CYCLES] | w[TOOK] {
-        return false;
-    }
-    spare(w) == 0
+    w[PHASE] <= rules::MOST_TAG && w[OWES] <= 1 && narrow(w) <= 65535 && spare(w) == 0
 }
 
 fn flagged(told: bool, n: u32) -> bool
     ensures { result ≡ flagged told n }
 {
-    if told {
-        return true;
-    }
-    n == 0
+    told || n == 0
 }
 
 // Whether words are a record's.
 pub fn is_record(w: [u32; WORDS]) -> bool
     ensures { result ≡ is_record w }
 {
-    if !within(w) {
-        return false;
-    }
-    if !flagged(rules::has_second(w[PHASE]), w[K]) {
-        return false;
-    }
-    flagged(w[OWES] == 1, w[OWED])
+    within(&w) && flagged(rules::has_second(w[PHASE]), w[K]) && flagged(w[OWES] == 1, w[OWED])
 }
 
 // Whether a phase's numbers are in their ranges, by the number of the phase.
