@@ -37,6 +37,9 @@ fn turns_ok(p: Place) -> bool
     p.count <= rules::MOST_TURNS && p.word >> p.count == 0
 }
 
+// Kept: these codes are numbers, 0 where none is given, as their definitions are, which the clauses
+// name; `edit_code` answers the first that is not 0.
+
 // Codes 3 and 4.
 #[tactic(auto, unfolding(base::specs::Choice::pick, rules::specs::Places::place_code))]
 pub fn place_code(r: u16, p: Place) -> u8
@@ -94,6 +97,8 @@ pub fn edit_code(x: Record, p: Place, side: u32, target: u8) -> u8
 }
 
 // From node start, turn by turn, lowest bit first.
+// Kept: the edges are two slices and m, as `table::edge` takes them: a struct of them would be made
+// anew by each call that changes an edge.
 pub fn walk_from(
     left: &[u16],
     right: &[u16],

@@ -30,6 +30,7 @@ pub const LEFT: u8 = 0;
 pub const RIGHT: u8 = 1;
 
 // [Codes 15] Why Append should not meet a node.
+// Kept: numbers, as a detail is one in `refused_with` and in C.
 pub const GRAY_NODE: u8 = 0;
 
 pub const WHITE_ROOT: u8 = 1;
@@ -37,6 +38,7 @@ pub const WHITE_ROOT: u8 = 1;
 pub const WHITE_LAST: u8 = 2;
 
 // [C 2] The number of each phase, and the largest of them.
+// Kept: numbers, since C has no enums; the definition `tag_of` has the same.
 const ROOTS_TAG: u32 = 0;
 
 pub const SCAN_TAG: u32 = 1;
@@ -99,6 +101,7 @@ pub enum Answer {
     Whitened(u16),
     Appended(u16),
     Counted(u16),
+    // Kept: a code is a number of the rules, which `code_of` tells and C takes.
     Refused(u8, u16, u8),
 }
 
@@ -133,6 +136,7 @@ pub struct Damaged {
 }
 
 // A step as a kind and seven numbers: 0 take, 1 link, 2 shade, 3 collect, 4 look.
+// Kept: a kind and a side are any numbers, since [Codes 10] is for those that are none.
 #[derive(Clone, Copy)]
 pub struct Step {
     pub kind: u32,
@@ -147,6 +151,7 @@ pub struct Step {
 
 // What a run of steps hands back: how many were done, the code that ended it or 0, with its detail,
 // how many colours they changed in all, and the record.
+// Kept: the code is a number, 0 where none is given, as `ran` and `schedule` have it.
 #[derive(Clone, Copy)]
 pub struct Ran {
     pub done: usize,
@@ -357,6 +362,7 @@ fn record_ok(x: Record) -> bool
 }
 
 // Codes 1 and 2, for slices of these lengths; 0 where neither is given.
+// Kept: a number and no Result, since the clause is that it is `check_of`'s.
 pub fn check(lefts: usize, rights: usize, colours: usize, x: Record) -> u8
     ensures { result ≡ check_of (lefts ∷ rights ∷ []) colours x }
 {
@@ -381,6 +387,7 @@ pub fn refusal_with(code: u8, node: u16, detail: u8, x: Record) -> Made
 }
 
 // The same where there is no more to tell.
+// Kept: two functions, as the definitions are two words, `refusal_with` and `refusal`.
 pub fn refusal(code: u8, node: u16, x: Record) -> Made
     ensures { result ≡ refusal code node x }
 {

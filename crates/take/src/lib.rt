@@ -13,6 +13,8 @@ ghost use Rattle.rules.specs.Lent.{given, leaves};
 
 use rules::{Answer, Made, Place, Record};
 
+// Kept: the table is three lent slices, as in the public calls, and the record goes by value.
+
 // Whether an edge of the free chain is bad: to a root other than NIL, or at least M.
 #[tactic(auto, unfolding(base::specs::Choice::every, rules::specs::Editor::bad_free))]
 fn bad_free(m: u16, r: u16, e: u16) -> bool
