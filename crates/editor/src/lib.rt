@@ -14,7 +14,7 @@ ghost use Rattle.rules.specs.Lent.{given};
 use rules::{Answer, Made, Place, Record};
 
 // Kept: the table is three lent slices, each `&mut` only where the call writes it, and the record
-// goes beside them by value: `collect`, `link` and `shade` lend different ones, so no struct has them.
+// goes beside them by value: `look`, `link` and `shade` lend different ones, so no struct has them.
 
 // Look, where neither code 1 nor 2 is given.
 pub fn look_passed(left: &[u16], right: &[u16], colour: &[u8], x: Record, p: Place) -> Made
