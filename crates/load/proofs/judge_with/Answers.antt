@@ -1,33 +1,30 @@
--- `judge_with` meets its contract: the chain found is what is judged.
-use mathlib.Core.Path.{ap, ◌∙◌}
-use mathlib.Core.List.{[], ◌∷◌}
-use Rattle.rules.specs.Load.{Chained, judge_free}
-use Rattle.load.proofs.Answers.{judge_passed}
-use native.Mathlib.Omega.{arith}
+-- `judge_with` meets its contract: the chain found is what is judged, by the first shared node.
+use Rattle.std.proofs.lemmas.Result.{err_from_is_err_and}
+use Rattle.load.proofs.Answers.{judge_broken, judge_shared, judge_whole}
 use Rattle.load.proofs.judge_with.Goals as goal
 
-pub chain-found-requires-clause-below : goal.chain-found-requires-clause-below
-chain-found-requires-clause-below c = c.requires.below
+pub chain-requires-clause-below : goal.chain-requires-clause-below
+chain-requires-clause-below c = c.requires.below
 
-pub judge_free-answer-requires : goal.judge_free-answer-requires
-judge_free-answer-requires c =
-    record {
-      m_le_most_nodes = omega (arith, c.requires);
-      r_le_most_slots = omega (arith, c.requires);
-      r_bound = omega (arith, c.requires);
-      left_len = omega (arith, c.requires);
-      right_len = omega (arith, c.requires);
-      m_in_bounds = omega (arith, c.requires);
-      m_in_bounds_2 = omega (arith, c.requires);
-      by_index = c.requires.by_index;
+pub first_shared-requires-clause-by_index : goal.first_shared-requires-clause-by_index
+first_shared-requires-clause-by_index c = c.requires.by_index
+
+pub returns-in_err-whole : goal.returns-in_err-whole
+returns-in_err-whole c =
+    let p = err_from_is_err_and c.from_residual.result c.from_residual.ensures.1 in
+    rw (p.1, p.2) record {
+      answer_value = judge_broken _ _ _ _ _ _ c.in_err-whole.ensures.answer_value;
+      free_value = tt;
     }
 
-pub returns : goal.returns
-returns c =
-    record {
-      answer_value = c.judge_free-answer.ensures
-          ∙ ap (λ (w : Chained). judge_free c.args.m c.args.r
-          (c.args.left.now ∷ c.args.right.now ∷ []) w) c.chain-found.ensures.answer_value;
-      free_value = λ q. c.chain-found.ensures.free_value
-          (judge_passed _ _ _ _ _ c.judge_free-answer.ensures q);
-    }
+pub returns-in-Some : goal.returns-in-Some
+returns-in-Some c = record {
+  answer_value = judge_shared _ _ _ _ _ _ c.in_ok-whole.ensures.answer_value _ c.in-Some.ensures;
+  free_value = tt;
+}
+
+pub returns-in-None : goal.returns-in-None
+returns-in-None c = record {
+  answer_value = judge_whole _ _ _ _ _ _ c.in_ok-whole.ensures.answer_value c.in-None.ensures;
+  free_value = c.in_ok-whole.ensures.free_value;
+}

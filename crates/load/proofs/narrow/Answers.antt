@@ -2,27 +2,18 @@
 -- cut.
 use mathlib.Core.Path.{refl}
 use native.Mathlib.Omega.{arith}
-use lib.ListN.{length-set}
 use Rattle.load.proofs.Laws.{copied_more, copied_front}
 use Rattle.load.proofs.narrow.Goals as goal
-
-pub loop-n-init : goal.loop-n-init
-loop-n-init c = (omega arith, refl, refl)
 
 pub overflow_cast-edges : goal.overflow_cast-edges
 overflow_cast-edges c = omega (arith, c.requires.below c.loop-n.n)
 
 pub loop-n-preserved : goal.loop-n-preserved
-loop-n-preserved c = (
-  omega arith,
-  simp length-set (omega arith),
-  copied_more
-      c.args.given.now c.loop-n.edges
-      c.loop-n.n _ (omega arith) (omega arith) c.loop-n.invariant.2
-      refl,
-)
+loop-n-preserved c =
+    copied_more c.args.given.now c.loop-n.edges c.loop-n.n _ (omega arith) (omega arith)
+    c.loop-n.invariant refl
 
 pub returns : goal.returns
 returns c =
-    copied_front c.args.given.now c.loop-n.edges c.loop-n.n
-    (omega arith) (omega arith) c.loop-n.invariant.2
+    copied_front c.args.given.now c.loop-n.edges c.loop-n.n (omega arith) (omega arith)
+    c.loop-n.invariant
