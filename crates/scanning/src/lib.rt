@@ -333,6 +333,9 @@ impl<'a> Marker<'a> {
             × ScanLeads self.entry.left.now self.entry.right.now colour.old self.entry.x self.entry.cap s
             colour.new t) }
     {
+        if s.d == self.cap {
+            return None;
+        }
         let h = self.look_on(colour, s);
         if self.can_visit(colour, h) {
             let v = self.visit(colour, h);
