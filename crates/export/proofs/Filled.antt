@@ -1,12 +1,12 @@
 -- Where a session stands after a line of an export: what the code leaves is what the line makes of
 -- it.
-use Prim.Native.Nat.{ℕ, ◌+◌, ◌-◌, min}
+use Prim.Native.Nat.{ℕ, ◌+◌, min}
 use mathlib.Core.Bool.{Bool, true, false}
 use mathlib.Core.Path.{◌≡◌, refl, ◌∙◌}
 use mathlib.Core.List.{List, ◌++◌}
-use native.Mathlib.Nat.{sub-zero}
 use lib.ListN.{length, set, take, drop}
 use lib.Dec.{eqb, ltb}
+use Rattle.std.proofs.lemmas.List.{take_min}
 use Rattle.base.specs.Choice.{pick}
 use Rattle.base.proofs.Tests.{pick_yes, pick_no}
 use Rattle.rules.specs.Table.{state}
@@ -19,20 +19,20 @@ use Rattle.session.specs.Feeding.{Stand, standing, filled, noting}
 use Rattle.session.specs.declared.Run.{Run}
 use Rattle.session.specs.declared.Stage.{Stage}
 use Rattle.session.specs.declared.Stage.TheVariants.{Loading, Serving, Stopped}
-use Rattle.session.proofs.Parts.{Lent, front}
+use Rattle.session.proofs.Parts.{Lent}
 use Rattle.session.proofs.Stands.{stands}
-use Rattle.export.specs.Replaces.{Replaces}
+use Rattle.session.specs.Replaces.{Replaces}
 
 -- Load in the parts that were lent, of the parts of the lists
 pub replaced : (m n code node : ℕ) (l k c l' k' c' ls rs : List ℕ) (a b d i j : ℕ) (x y : Record)
     → Lent m a l l' → Lent m b k k' → Lent m d c c' → i ≡ min n (length ls) → j ≡ min n (length rs)
-    → prints code node (state l' k' c' y) ≡ loaded (take (i - 0) ls) (take (j - 0) rs)
-    (state (take (a - 0) l) (take (b - 0) k) (take (d - 0) c) x)
+    → prints code node (state l' k' c' y) ≡ loaded (take i ls) (take j rs)
+    (state (take a l) (take b k) (take d c) x)
     → Replaces m (loaded (take n ls) (take n rs)) (state l k c x) code node
-    (state (l' ++ drop (a - 0) l) (k' ++ drop (b - 0) k) (c' ++ drop (d - 0) c) y)
+    (state (l' ++ drop a l) (k' ++ drop b k) (c' ++ drop d c) y)
 replaced m n code node l k c l' k' c' ls rs a b d i j x y p q s u v e =
-    let w : take (i - 0) ls ≡ take n ls = rw (sub-zero, u) (front n ls) in
-    let z : take (j - 0) rs ≡ take n rs = rw (sub-zero, v) (front n rs) in
+    let w : take i ls ≡ take n ls = rw u (take_min n ls) in
+    let z : take j rs ≡ take n rs = rw v (take_min n rs) in
     record {
       front = rw (p.first, q.first, s.first) (rw (w, z, p.given, q.given, s.given) at e);
       left = p.rest;

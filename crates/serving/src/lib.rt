@@ -1,186 +1,82 @@
-// The lines of a table: the first one, which makes it, and the steps, a line at a time up to a
-// block's end.
+// The lines of a table: the first one, which makes it, and the steps.
 #![tactic(auto)]
 
-ghost use Rattle.std.specs.Prelude.{◌≡◌, List, ℕ, ◌<◌, length, take, drop, eqb};
-ghost use Rattle.base.specs.Choice.{pick};
+ghost use Rattle.std.specs.Prelude.{◌≡◌, take};
 ghost use Rattle.rules.specs.Table.{state};
-ghost use Rattle.text.specs.Grammar.{read};
-ghost use Rattle.lines.specs.Lines.{prints, later};
-ghost use Rattle.session.specs.Feeding.{fold, ended, standing, stand, begun, eats};
-ghost use Rattle.serving.specs.Serving.{going, next_byte, fed, next_line};
 ghost use Rattle.rules.specs.Lent.{given};
+ghost use Rattle.text.specs.Grammar.{read};
+ghost use Rattle.lines.specs.Lines.{prints, opened, later};
+ghost use Rattle.session.specs.Feeding.{standing_in, stand_in, SameSlices, begun, line_ended};
+ghost use Rattle.session.specs.Replaces.{Replaces};
 
 use lines::Told;
 use rules::Record;
-use session::{Run, Session, Stage};
+use session::{Buffers, Run, Session, Stage};
 
-// The position of the next byte, and where the bytes before it led.
-#[derive(Clone, Copy)]
-pub struct Fed {
-    pub next: usize,
-    pub run: Run,
+// The first line that the first n bytes of a buffer are.
+fn first_of(left: &mut [u16], right: &mut [u16], colour: &mut [u8], line: &[u8], n: usize) -> Told
+    ensures { prints result.code result.node (state left.new right.new colour.new result.rec)
+        ≡ opened (read (take n line.now)) left.old right.old colour.old }
+{
+    let end = n.min(line.len());
+    lines::first(left, right, colour, &line[..end])
 }
 
-// The line that the first n bytes of a buffer are.
+// The later line that the first n bytes of a buffer are, of a table in the first m entries.
 fn later_of(
     left: &mut [u16],
     right: &mut [u16],
     colour: &mut [u8],
     x: Record,
+    m: usize,
     line: &[u8],
     n: usize,
 ) -> Told
-    ensures { prints result.code result.node (state left.new right.new colour.new result.rec)
-        ≡ later (read (take n line.now)) (given left.old right.old colour.old x) }
+    ensures { Replaces m (later (read (take n line.now))) (given left.old right.old colour.old x)
+        result.code result.node (state left.new right.new colour.new result.rec) }
 {
-    let end = session::least(n, line.len());
-    lines::later(left, right, colour, x, &line[0..end])
+    let a = m.min(left.len());
+    let b = m.min(right.len());
+    let c = m.min(colour.len());
+    let end = n.min(line.len());
+    lines::later(
+        &mut left[..a],
+        &mut right[..b],
+        &mut colour[..c],
+        x,
+        &line[..end],
+    )
 }
 
-// The line at hand is at its end: it is answered, and the next begins.
-fn ended(
-    left: &mut [u16],
-    right: &mut [u16],
-    colour: &mut [u8],
-    line: &[u8],
-    out: &mut [u8],
-    g: Run,
-) -> Run
-    ensures { going result left.new right.new colour.new line.now out.new
-        ≡ ended (going g left.old right.old colour.old line.now out.old) }
+// The line at hand is at its end where a table of m entries is served: it is answered, and the next
+// begins.
+pub fn ended(b: &mut Buffers<'_>, g: Run, m: usize) -> Session
+    ensures same { SameSlices b.old b.new }
+    ensures stands { stand_in result b.new
+        ≡ line_ended (Stage.Serving m) (standing_in (Stage.Serving m) g b.old) }
 {
-    let x = g.rec;
-    let told = later_of(left, right, colour, x, line, g.at);
+    let line = &mut *b.line;
+    let told = later_of(b.left, b.right, b.colour, g.rec, m, line, g.at);
+    let used = text::say(b.out, g.used, told.code, told.node);
     let rec = told.rec;
-    Run {
-        rec,
-        at: 0,
-        used: text::say(out, g.used, told.code, told.node),
+    Session {
+        stage: Stage::Serving(m),
+        run: Run { rec, at: 0, used },
     }
-}
-
-// The bytes from position i on up to a newline, and with it the line's answer; or all that are
-// left.
-fn next_line(
-    left: &mut [u16],
-    right: &mut [u16],
-    colour: &mut [u8],
-    line: &mut [u8],
-    out: &mut [u8],
-    g: Run,
-    input: &[u8],
-    i: usize,
-) -> Fed
-    requires { i < length input.now }
-    ensures { fed result left.new right.new colour.new line.new out.new
-        ≡ next_line input.now i (going g left.old right.old colour.old line.old
-        out.old) }
-{
-    let end = session::newline_from(input, i);
-    let at = text::put_all(line, g.at, &input[i..end]);
-    let rec = g.rec;
-    let run = Run {
-        rec,
-        at,
-        used: g.used,
-    };
-    if end < input.len() {
-        let run = ended(left, right, colour, line, out, run);
-        return Fed { next: end + 1, run };
-    }
-    Fed { next: end, run }
-}
-
-// Bytes of the input from position i on, a line at a time.
-fn feed(
-    left: &mut [u16],
-    right: &mut [u16],
-    colour: &mut [u8],
-    line: &mut [u8],
-    out: &mut [u8],
-    g: Run,
-    input: &[u8],
-    i: usize,
-) -> Run
-    ensures { going result left.new right.new colour.new line.new out.new
-        ≡ fold next_byte (drop i input.now)
-        (going g left.old right.old colour.old line.old out.old) }
-{
-    let mut run = g;
-    let mut next = i;
-    while next < input.len() {
-        let fed = next_line(left, right, colour, line, out, run, input, next);
-        run = fed.run;
-        next = fed.next;
-    }
-    run
-}
-
-// The same where the table is in the first m entries of longer ones, which are lent in part.
-pub fn serve(
-    left: &mut [u16],
-    right: &mut [u16],
-    colour: &mut [u8],
-    line: &mut [u8],
-    out: &mut [u8],
-    g: Run,
-    m: usize,
-    input: &[u8],
-    i: usize,
-) -> Session
-    ensures { (ls rs : List ℕ)
-        → stand result left.new right.new colour.new ls rs line.new out.new
-        ≡ fold eats (drop i input.now)
-        (standing (Stage.Serving m) g left.old right.old colour.old
-        ls rs line.old out.old) }
-{
-    let a = session::least(m, left.len());
-    let b = session::least(m, right.len());
-    let c = session::least(m, colour.len());
-    let run = feed(
-        &mut left[0..a],
-        &mut right[0..b],
-        &mut colour[0..c],
-        line,
-        out,
-        g,
-        input,
-        i,
-    );
-    let stage = Stage::Serving(m);
-    Session { stage, run }
-}
-
-// Which line comes after the first: a refusal ends the run.
-fn after_first(code: u8, m: u16) -> Stage
-    ensures { result ≡ pick (eqb code 0) (Stage.Second m) Stage.Over }
-{
-    if code != 0 {
-        return Stage::Over;
-    }
-    Stage::Second(m as usize)
 }
 
 // The first line is at its end: it is answered, and begins a table unless it is refused.
-pub fn begin(
-    left: &mut [u16],
-    right: &mut [u16],
-    colour: &mut [u8],
-    line: &[u8],
-    out: &mut [u8],
-    g: Run,
-) -> Session
-    ensures { (ls rs : List ℕ)
-        → stand result left.new right.new colour.new ls rs line.now out.new
-        ≡ begun (standing Stage.Opening g left.old right.old colour.old ls rs line.now
-        out.old) }
+pub fn begin(b: &mut Buffers<'_>, g: Run) -> Session
+    ensures same { SameSlices b.old b.new }
+    ensures stands { stand_in result b.new ≡ begun (standing_in Stage.Opening g b.old) }
 {
-    let end = session::least(g.at, line.len());
-    let told = lines::first(left, right, colour, &line[0..end]);
-    let used = text::say(out, g.used, told.code, told.node);
-    let rec = told.rec;
-    let run = Run { rec, at: 0, used };
-    let stage = after_first(told.code, rec.m);
-    Session { stage, run }
+    let line = &mut *b.line;
+    let opened = first_of(b.left, b.right, b.colour, line, g.at);
+    let used = text::say(b.out, g.used, opened.code, opened.node);
+    let rec = opened.rec;
+    let m = usize::from(rec.m);
+    Session {
+        stage: Stage::after(opened.code, Stage::Second(m), Stage::Over),
+        run: Run { rec, at: 0, used },
+    }
 }

@@ -2,13 +2,14 @@
 -- is in buffers: the program's own tables, the lists of an export's edges, the line at hand and the
 -- output.
 use Rattle.base.specs.Choice.{pick}
-use Rattle.std.specs.Prelude.{ℕ, ◌+◌, Bool, true, false, List, [], ◌∷◌, ◌++◌, get_or, set, take, drop, ltb, eqb, Option, Some, None}
+use Rattle.std.specs.Prelude.{ℕ, ◌≡◌, ◌+◌, Bool, true, false, List, [], ◌∷◌, ◌++◌, get_or, set, take, drop, ltb, eqb, Option, Some, None}
 use Rattle.rules.specs.Table.{State, state}
 use Rattle.rules.specs.Records.{fresh_record}
 use Rattle.text.specs.Grammar.{read, is_export, entry}
 use Rattle.text.specs.Answers.{Written, written, contents, put_all, said}
 use Rattle.text.specs.declared.Edges.{Edges}
 use Rattle.lines.specs.Lines.{Line, prints, later, opened, loaded}
+use Rattle.session.specs.declared.Buffers.{Buffers}
 use Rattle.session.specs.declared.Run.{Run}
 use Rattle.session.specs.declared.Session.{Session}
 use Rattle.session.specs.declared.Stage.{Stage}
@@ -108,6 +109,23 @@ standing stage g l k c lefts rights line out =
 
 abbrev pub stand : Session → List ℕ → List ℕ → List ℕ → List ℕ → List ℕ → List ℕ → List ℕ → Stand
 stand s l k c lefts rights line out = standing s.stage s.run l k c lefts rights line out
+
+-- where the code stands with the buffers that it is lent together
+abbrev pub standing_in : Stage → Run → Buffers → Stand
+standing_in stage g b =
+    standing stage g b.left.now b.right.now b.colour.now b.lefts.now b.rights.now b.line.now
+    b.out.now
+
+abbrev pub stand_in : Session → Buffers → Stand
+stand_in s b = standing_in s.stage s.run b
+
+-- b lends the slices that a lends
+abbrev pub SameSlices : Buffers → Buffers → Type 0
+SameSlices a b =
+    (b.left.ghost_name ≡ a.left.ghost_name) × (b.right.ghost_name ≡ a.right.ghost_name) ×
+    (b.colour.ghost_name ≡ a.colour.ghost_name) × (b.lefts.ghost_name ≡ a.lefts.ghost_name) ×
+    (b.rights.ghost_name ≡ a.rights.ghost_name) × (b.line.ghost_name ≡ a.line.ghost_name) ×
+    (b.out.ghost_name ≡ a.out.ghost_name)
 
 -- the same in another stage, with other lines
 abbrev pub moved : Stage → Going → Stand → Stand

@@ -2,7 +2,8 @@
 // buffers. What a block of the input makes of it is defined in specs/.
 #![tactic(auto)]
 
-ghost use Rattle.std.specs.Prelude.{◌≡◌, min, drop};
+ghost use Rattle.std.specs.Prelude.{◌≡◌, ◌==◌, drop, eqb, position};
+ghost use Rattle.base.specs.Choice.{pick};
 ghost use Rattle.session.specs.Feeding.{newline_from};
 
 use rules::Record;
@@ -38,25 +39,44 @@ pub struct Session {
     pub run: Run,
 }
 
-pub fn least(a: usize, b: usize) -> usize
-    ensures { result ≡ min a b }
-{
-    if a < b {
-        return a;
+impl Stage {
+    // Where an answer with this code leads: a refusal ends the run.
+    pub fn after(code: u8, accepted: Stage, refused: Stage) -> Stage
+        ensures { result ≡ pick (eqb code 0) accepted refused }
+    {
+        if code == 0 { accepted } else { refused }
     }
-    b
+}
+
+// The buffers that a run is lent: the program's own table, the lists of an export's edges, the line
+// at hand and the output.
+#[derive(Drop)]
+pub struct Buffers<'a> {
+    pub left: &'a mut [u16],
+    pub right: &'a mut [u16],
+    pub colour: &'a mut [u8],
+    pub lefts: &'a mut [u32],
+    pub rights: &'a mut [u32],
+    pub line: &'a mut [u8],
+    pub out: &'a mut [u8],
+}
+
+// The position of the first newline, if there is one.
+fn newline(input: &[u8]) -> Option<usize>
+    ensures { result ≡ position (λ b. b == 10) input.now }
+{
+    input.iter().position(|b| *b == NEWLINE)
 }
 
 // The position of the first newline from position i on, or the input's length.
 pub fn newline_from(input: &[u8], i: usize) -> usize
     ensures { result ≡ newline_from (drop i input.now) i }
 {
-    let mut at = i;
-    while at < input.len() {
-        if input[at] == NEWLINE {
-            return at;
-        }
-        at += 1;
+    if i >= input.len() {
+        return i;
     }
-    at
+    match newline(&input[i..]) {
+        Some(n) => i + n,
+        None => input.len(),
+    }
 }

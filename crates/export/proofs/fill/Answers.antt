@@ -2,7 +2,7 @@
 use Rattle.export.proofs.Filled.{filled_so}
 use Rattle.export.proofs.fill.Goals as goal
 
-pub returns : goal.returns
-returns c =
-    filled_so _ _ _ _ _ _ _ _ _ _ _ _ _ _ _ _ c.load_part-answer.ensures c.say-used.ensures
-    _ c.after_load-stage.ensures
+pub returns-clause-stands : goal.returns-clause-stands
+returns-clause-stands c =
+    filled_so _ _ _ _ _ _ _ _ _ _ _ _ _ _ _ _ (rw c.from-n.ensures at c.load_part-told.ensures)
+    c.say-used.ensures _ c.after.ensures _
