@@ -5,7 +5,12 @@ use native.Mathlib.Nat.{add-zero}
 use mathlib.Core.Path.{◌≡◌, refl, sym, ap, subst, ◌∙◌}
 use mathlib.Core.List.{List}
 use lib.Dec.{eqb}
-use lib.ListN.{length, get_or}
+use lib.ListN.{length, get_or, take, drop}
+use lib.Seq.{get_or-take, get_or-drop}
+use Rattle.record_words.specs.Words.{word}
+use Rattle.std.specs.List.{list_all}
+use Rattle.base.specs.Choice.{every, pick}
+use Rattle.record_words.proofs.RoundTrip.{parts}
 use Rattle.base.proofs.Tests.{split}
 use Rattle.rules.specs.Table.{State, state, outcome}
 use Rattle.rules.specs.Check.{check}
@@ -19,7 +24,39 @@ use Rattle.rules.specs.declared.Record.{Record}
 use Rattle.schedule.specs.declared.Going.{Going}
 use Rattle.schedule.specs.Stands.{going, ended, begun, after, Goes}
 use Rattle.schedule.proofs.Loop.{Inv, counted, inside, settled, leaves, turns, begins}
-use Rattle.jenturik_c.specs.Flat.{step_at, steps_from, steps_of, STEP_WORDS}
+use Rattle.jenturik_c.specs.Flat.{step_at, steps_from, steps_of, STEP_WORDS, UNUSED, zeros}
+use Rattle.jenturik_c.specs.Flat.{kind_at, at as word_at}
+
+-- the words without a use, of a step's words
+pub all_zero : (w : List ℕ) → length w ≡ STEP_WORDS
+    → list_all (λ (n : ℕ). eqb n 0) (take (length w - UNUSED) (drop UNUSED w)) ≡ zeros w UNUSED
+unfolding zeros every pick
+all_zero w e = rw (e, parts w 4 UNUSED (omega (arith, e))) (grind arith)
+
+-- a step that is read from its own words
+module _ (w : List ℕ) (i k : ℕ) (e : k ≡ STEP_WORDS) where
+  own : (n m : ℕ) → n < STEP_WORDS → m ≡ STEP_WORDS * i + n
+      → word (take k (drop (STEP_WORDS * i) w)) n ≡ word w m
+  own n m h q = get_or-take k _ n 0 (omega (arith, e)) ∙ get_or-drop (STEP_WORDS * i) w n 0
+      ∙ ap (word w) (sym q)
+
+  pub own_step : step_at (take k (drop (STEP_WORDS * i) w)) 0 ≡ step_at w i
+  unfolding kind_at zeros
+  own_step =
+      rw (
+        own 0 (word_at i 0) (omega arith) refl,
+        own 1 (word_at i 1) (omega arith) refl,
+        own 2 (word_at i 2) (omega arith) refl,
+        own 3 (word_at i 3) (omega arith) refl,
+        own 4 (word_at i 4) (omega arith) refl,
+        own 5 (word_at i 5) (omega arith) refl,
+        own 6 (word_at i 6) (omega arith) refl,
+        own 7 (word_at i 7) (omega arith) refl,
+        own 8 (word_at i UNUSED) (omega arith) refl,
+        own 9 (word_at i UNUSED + 1) (omega arith) (omega arith),
+        own 10 (word_at i UNUSED + 2) (omega arith) (omega arith),
+        own 11 (word_at i UNUSED + 3) (omega arith) (omega arith),
+      ) refl
 
 -- a run begins with the record that it is given
 same_record : (code n : ℕ) (x : Record) (g : Going) → g ≡ begun code n x → g.rec ≡ x

@@ -6,8 +6,8 @@ use mathlib.Core.Bool.{Bool, true, false, true≢false}
 use mathlib.Core.List.{List, [], ◌∷◌}
 use mathlib.Core.Path.{◌≡◌, refl, sym, subst, ap, ◌∙◌}
 use lib.Dec.{eqb}
-use lib.ListN.{length, set, drop, drop_of_length-le}
-use lib.Seq.{drop-cons, set-get_or}
+use lib.ListN.{length, set, take, drop}
+use lib.Seq.{drop-cons, take_all, set-get_or}
 use borrow.Author.Tests.{eqb-true, eqb-false}
 use Rattle.base.specs.Choice.{pick}
 use Rattle.base.proofs.Tests.{each, facts, split, eq_no}
@@ -57,14 +57,19 @@ owed_there owes n one e =
     (λ a. record { owes_is = omega (arith, one, eqb-false owes 0 a); n_is = refl })
 
 -- the k words of w from the n-th on
-abbrev part : List ℕ → ℕ → ℕ → List ℕ
+abbrev pub part : List ℕ → ℕ → ℕ → List ℕ
 part w n zero = []
 part w n (suc k) = word w n ∷ part w (suc n) k
 
-parts : (w : List ℕ) (k n : ℕ) → n + k ≡ length w → drop n w ≡ part w n k
-parts w zero n e = drop_of_length-le w {i = n} (omega arith)
-parts w (suc k) n e = drop-cons w n 0 (omega arith)
-    ∙ ap (λ (v : List ℕ). word w n ∷ v) (parts w k (suc n) (omega arith))
+pub parts : (w : List ℕ) (k n : ℕ) → n + k ≤ length w → take k (drop n w) ≡ part w n k
+parts w zero n h = refl
+parts w (suc k) n h =
+    rw (drop-cons w n 0 (omega arith))
+    (ap (λ (v : List ℕ). word w n ∷ v) (parts w k (suc n) (omega arith)))
+
+-- all words
+pub whole_words : (w : List ℕ) (n : ℕ) → length w ≡ n → w ≡ part w 0 n
+whole_words w n e = sym (take_all n w (omega (arith, e))) ∙ parts w n 0 (omega (arith, e))
 
 -- a word that has no use
 none : (n : ℕ) → n ≤ 0 → 0 ≡ n
@@ -82,7 +87,7 @@ words_back w e =
     let p = phase_there (word w PHASE) (word w I) (word w K) (omega (arith, f))
     (none_told _ (word w K) (sym t.1.1.0)) in
     let o = owed_there (word w OWES) (word w OWED) (omega (arith, f)) (sym t.1.1.1.0) in
-    let all = parts w WORDS 0 (sym (eqb-true (length w) WORDS t.0)) in
+    let all = whole_words w WORDS (eqb-true (length w) WORDS t.0) in
     let u = idle w e in
     let same : words_of (record_of w) ≡ part w 0 WORDS = search (u, p, o) depth 16 in
     same ∙ sym all
@@ -143,7 +148,7 @@ pub all_stored : (w w₁ w₂ : List ℕ) → true ≡ is_record w → (x : Reco
     → moved (set (set w₂ OWES owes) OWED n) x ≡ words_of x
 unfolding is_record
 all_stored w w₁ w₂ e x owes n p q o d =
-    let all = parts w WORDS 0 (sym (eqb-true (length w) WORDS (each _ e).0)) in
+    let all = whole_words w WORDS (eqb-true (length w) WORDS (each _ e).0) in
     let nodes = p ∙ ap (λ (v : List ℕ). set v NODES x.m) all in
     let slots = q ∙ ap (λ (v : List ℕ). set v SLOTS x.r) nodes in
     rw (o, d)

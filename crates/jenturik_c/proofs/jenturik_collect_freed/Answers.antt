@@ -29,7 +29,7 @@ returns c =
     let a_record = sym c.if-not-is_record.false ∙ c.is_record.ensures in
     let same = c.record_of.ensures in
     let all = c.collect_freed-all.ensures in
-    let written = c.words_of-v.ensures in
+    let written = c.words_of.ensures in
     let nodes = faces_nodes _ _ _ _ _ a_record same _ in
     record {
       words_value =

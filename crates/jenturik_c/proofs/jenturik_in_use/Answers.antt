@@ -10,8 +10,8 @@ pub returns-then-not-is_record : goal.returns-then-not-is_record
 returns-then-not-is_record c = record {
   words_value =
       spurned _ _ _ _ (sym c.if-not-is_record.true ∙ c.is_record.ensures) _ _
-      c.no_record.ensures.result_value;
-  changed_value = c.no_record.ensures.changed_value;
+      c.refused.ensures.result_value;
+  changed_value = c.refused.ensures.changed_value;
 }
 
 pub record_of-requires : goal.record_of-requires

@@ -29,8 +29,8 @@ returns c =
     let written = c.put.ensures in
     record {
       words_value =
-          faces_run _ _ _ _ _ _ _ _ _ a_record same _ _ _ _ _ done.colour_value
-          written.words_value;
+          rw (c.from.ensures, c.from-2.ensures) (faces_run _ _ _ _ _ _ _ _ _ a_record same _ _ _ _ _
+          done.colour_value written.words_value);
       stays = λ h. written.true_value;
       changed_value =
           faces_count _ _ _ _ _ a_record same _ _ (c.fitted.ensures ∙ ap fitted done.changed_value);
