@@ -141,7 +141,10 @@ fn visit_rest(graph: Graph, marks: &mut [u8], order: &mut [u16], start: Walk) ->
 {
     let mut next = start.next;
     let mut met = start.met;
-    while next < met.tail && order.len() - met.tail >= 2 {
+    while next < met.tail {
+        if order.len() - met.tail < 2 {
+            return Walk { next, met };
+        }
         let n = order[next];
         met = visit_edges(graph, marks, order, n, met);
         next += 1;

@@ -1,6 +1,7 @@
--- `link_free` meets its contract: from `node` on the edges are the definition's, and `next` is what
--- the node below `node` leads to: the one written before, or 0. At the end `node` is R + 2.
-use Prim.Native.Nat.{◌+◌, ◌-◌}
+-- `link_free` meets its contract: from `node` on the edges are the definition's. The last free node
+-- leads to 0, and each one below to the node above it, the one written before. At the end `node` is
+-- R + 2, FREE's edge; where nothing is free that is 0, and all edges are there.
+use Prim.Native.Nat.{◌+◌}
 use native.Mathlib.Omega.{arith}
 use mathlib.Core.Path.{◌≡◌}
 use lib.ListN.{length-set}
@@ -9,33 +10,40 @@ use Rattle.fresh.proofs.Fills.{ahead, down}
 use Rattle.fresh.proofs.Lefts.{after_last, after, of_free}
 use Rattle.fresh.proofs.link_free.Goals as goal
 
+pub returns-then-m-roots : goal.returns-then-m-roots
+returns-then-m-roots c =
+    let m = c.args.m in
+    let none : c.args.r + 2 ≡ m = omega arith in record {
+      value = after_last _ _ (omega arith);
+      left_value = rw none
+          (ahead (fresh_left m c.args.r) c.args.left.now m (omega arith));
+    }
+
 pub loop-node-init : goal.loop-node-init
-loop-node-init c = record {
-  low = omega arith;
-  high = omega arith;
-  len = omega arith;
-  next_value = after_last _ _ (omega arith);
-  left_value = ahead (fresh_left c.args.m c.args.r) c.args.left.now c.args.m (omega arith);
-}
+loop-node-init c =
+    let m = c.args.m in
+    let f = fresh_left m c.args.r in
+    let left = c.args.left.now in (
+      omega arith,
+      omega arith,
+      simp length-set (omega arith),
+      rw c.from-last.ensures (down f left _ m _ _ (omega arith) (omega arith)
+          (of_free _ _ _ _ (omega arith) (after_last _ _ (omega arith)))
+          (ahead f left m (omega arith))),
+    )
 
 pub loop-node-preserved : goal.loop-node-preserved
-loop-node-preserved c =
-    let inv = c.loop-node.invariant in
-    record {
-      low = omega arith;
-      high = omega arith;
-      len = simp length-set (omega arith);
-      next_value = after _ _ _ (omega arith) (omega arith);
-      left_value = rw c.from.ensures
-          (down (fresh_left c.args.m c.args.r) _ _ _ _ _ (omega arith) (omega arith)
-          (of_free _ _ _ _ (omega arith) inv.next_value) inv.left_value);
-    }
+loop-node-preserved c = (
+  omega arith,
+  omega arith,
+  simp length-set (omega arith),
+  rw c.from.ensures (down (fresh_left c.args.m c.args.r) _ _ _ _ _ (omega arith)
+      (omega arith)
+      (of_free _ _ _ _ (omega arith) (after _ _ _ (omega arith) (omega arith)))
+      c.loop-node.invariant.3),
+)
 
 pub returns : goal.returns
 returns c =
     let end : c.loop-node.node ≡ c.args.r + 2 = omega arith in
-    let below : c.loop-node.node - 1 ≡ c.args.r + 1 = omega arith in
-    record {
-      value = rw below at c.loop-node.invariant.next_value;
-      left_value = rw end at c.loop-node.invariant.left_value;
-    }
+    record { value = after _ _ _ (omega arith) (omega arith); left_value = rw end at c.loop-node.invariant.3 }

@@ -15,8 +15,8 @@ loop-next-init c = record {
   gone = λ s v u. gone_none v u;
 }
 
-pub returns-else-order-met-ge2 : goal.returns-else-order-met-ge2
-returns-else-order-met-ge2 c =
+pub returns-then-order-met-lt2 : goal.returns-then-order-met-lt2
+returns-then-order-met-lt2 c =
     let w = c.requires.going in
     let inv = c.loop-next.invariant in
     let g = inv.gone w.some w.shown w.hurt in
@@ -62,8 +62,8 @@ loop-next-preserved c =
           (omega arith) _ _ _ _ _ refl e.shown e.hurt_value;
     }
 
-pub returns-after-loop-next : goal.returns-after-loop-next
-returns-after-loop-next c =
+pub returns : goal.returns
+returns c =
     record {
       le_next = omega arith;
       tail_in_bounds = omega arith;
