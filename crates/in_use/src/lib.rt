@@ -11,6 +11,8 @@ use meet::{FEW_NODES, Graph};
 use rules::{Answer, MOST_NODES, Record};
 
 // The side of the first bad edge of node n, which has one.
+// Kept: `bad_side` of Load is the same of 32-bit edges by another test; one function for both is no
+// plainer, since it takes the test as a closure and serves one call in each crate.
 fn hurt_side(left: &[u16], m: u16, n: u16) -> u8
     requires { n < length left.now }
     ensures { (right : List ℕ) → true ≡ any_edge (bad_edge m) (left.now ∷ right ∷ []) n

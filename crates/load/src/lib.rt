@@ -86,6 +86,8 @@ fn first_bad(lefts: &[u32], rights: &[u32], m: u32) -> Option<usize>
 }
 
 // The side of the first such edge of node n, which has one.
+// Kept: `hurt_side` of In use is the same of 16-bit edges by another test; one function for both is
+// no plainer, since it takes the test as a closure and serves one call in each crate.
 fn bad_side(lefts: &[u32], m: u32, n: usize) -> u8
     requires { n < length lefts.now }
     ensures { (rights : List ℕ)
@@ -111,6 +113,7 @@ fn narrow(given: &[u32], edges: &mut [u16])
 }
 
 // Code 12: the free chain, or the first node that breaks it. The free nodes are marked.
+// Kept: the marks are numbers, as the definition `chain` has them.
 fn chain(graph: Graph, free: &mut [u8]) -> Result<FreeChain, Fault>
     requires m_in_bounds { graph.m ≤ length free.old }
     requires below { Below graph.m graph.left.now }

@@ -141,6 +141,7 @@ fn visit_rest(graph: Graph, marks: &mut [u8], order: &mut [u16], start: Walk) ->
 {
     let mut next = start.next;
     let mut met = start.met;
+    // Kept: the queue grows while it is read, so that no range or iterator over it is known at first.
     while next < met.tail {
         if order.len() - met.tail < 2 {
             return Walk { next, met };
@@ -183,6 +184,8 @@ fn visit_many(graph: Graph, marks: &mut [u8], few: &[u16], start: Walk) -> Visit
 // All that the slots reach along good edges: the nodes that have a number are marked. The marks are
 // given as zeros. The queue has few entries at first, since it takes longer to clear a long one than
 // to follow the edges of a few nodes.
+// Kept: `marks` are numbers, as in the definition `is_shared`, and the queue is an array with a tail
+// beside it, since there is no heap.
 pub fn meet(left: &[u16], right: &[u16], marks: &mut [u8], m: u16, r: u16) -> Visited
     requires m_le_most_nodes { m ≤ most_nodes }
     requires r_le_most_slots { r ≤ most_slots }
