@@ -143,14 +143,14 @@ fn chain(graph: Graph, free: &mut [u8]) -> Result<FreeChain, Fault>
     Err(Fault::Broken(n))
 }
 
-// Whether node n is free and marked. Both are read, so that no branch is taken by either.
+// Whether node n is free and marked.
 fn shared(free: &[u8], marks: &[u8], n: u16) -> bool
     requires n_in_bounds { n < length free.now }
     requires n_in_bounds_2 { n < length marks.now }
     ensures { result ≡ is_shared free.now marks.now n }
 {
     let at = usize::from(n);
-    (free[at] != 0) & (marks[at] != 0)
+    free[at] != 0 && marks[at] != 0
 }
 
 // The lowest such node, if there is one.

@@ -1,18 +1,17 @@
 -- `shared` meets its contract: its tests are the definition's.
-use mathlib.Core.Bool.{Bool, true, false, ◌&&◌}
-use mathlib.Core.List.{[], ◌∷◌}
-use mathlib.Core.Path.{◌≡◌, refl}
-use Rattle.base.specs.Choice.{every}
+use Rattle.base.proofs.Tests.{tests}
 use Rattle.rules.specs.Load.{is_shared}
+use borrow.Author.Rules.{rules}
 use Rattle.load.proofs.shared.Goals as goal
 
-both : (a b : Bool) → (a && b) ≡ every (a ∷ b ∷ [])
-unfolding every
-both true true = refl
-both true false = refl
-both false true = refl
-both false false = refl
-
-pub returns : goal.returns
+pub returns-then-free-at-ne0 : goal.returns-then-free-at-ne0
 unfolding is_shared
-returns c = rw c.from-at.ensures (both _ _)
+returns-then-free-at-ne0 c =
+    let free = rw c.from-at.ensures at c.if-free-at-ne0.true in
+    rw c.from-at.ensures (search (tests, rules) depth 12)
+
+pub returns-else-free-at-ne0 : goal.returns-else-free-at-ne0
+unfolding is_shared
+returns-else-free-at-ne0 c =
+    let none = rw c.from-at.ensures at c.if-free-at-ne0.false in
+    rw c.from-at.ensures (search (tests, rules) depth 12)
