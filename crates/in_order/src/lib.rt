@@ -108,8 +108,8 @@ fn whitening(colour: &mut [u8], end: usize, from: AppendAt) -> AppendAt
 }
 
 // One step of Append, or none where it is refused. One more may be free.
-// Kept: x and end are two parameters: `append_some` passes another end on, so a struct of both would
-// be made anew for each call. The table is three lent slices, as in the public calls.
+// Kept: x and end are two parameters, since `append_some` passes another end on than it is given.
+// The table is three lent slices, as in the public calls.
 fn append_one(
     left: &mut [u16],
     right: &mut [u16],
