@@ -101,31 +101,31 @@ pub fn all_steps(
     ensures changed_value { result.changed
         ≡ changes_all (collects n) (given left.old right.old colour.old x) }
 {
-    let mut run = Many {
-        done: 0,
-        answer: Answer::Named(0),
-        changed: 0,
-        rec: x,
-    };
-    while run.done < n {
-        let gone = stride_and_step(left, right, colour, run.rec, b, n - run.done - 1);
-        run = Many {
-            done: run.done + gone.done,
-            changed: run.changed + gone.changed,
-            ..gone
-        };
-        if run.answer.code() != 0 {
-            return run;
+    let mut rec = x;
+    let mut answer = Answer::Named(0);
+    let mut done = 0;
+    let mut changed = 0;
+    while done < n {
+        let gone = stride_and_step(left, right, colour, rec, b, n - done - 1);
+        rec = gone.rec;
+        answer = gone.answer;
+        done += gone.done;
+        changed += gone.changed;
+        if answer.code() != 0 {
+            break;
         }
-        run.done += 1;
-        if !rules::in_limits(run.rec, b) {
-            return Many {
-                answer: ended(run.done, n, run.answer),
-                ..run
-            };
+        done += 1;
+        if !rules::in_limits(rec, b) {
+            answer = ended(done, n, answer);
+            break;
         }
     }
-    run
+    Many {
+        done,
+        answer,
+        changed,
+        rec,
+    }
 }
 
 // n steps of the collector, or as many as are done before one is refused.

@@ -9,8 +9,8 @@ use Rattle.batch.proofs.StrideAndStep.{refused_summed, on_summed, spoilt_summed}
 use Rattle.batch.proofs.StrideAndStep.{none_summed, sizes_still}
 use Rattle.batch.proofs.all_steps.Goals as goal
 
-pub loop-run-init : goal.loop-run-init
-loop-run-init c = record {
+pub loop-done-init : goal.loop-done-init
+loop-done-init c = record {
   made = omega arith;
   passes = c.requires.passes;
   limit = c.requires.b_value;
@@ -21,26 +21,46 @@ loop-run-init c = record {
 
 pub stride_and_step-gone-requires : goal.stride_and_step-gone-requires
 stride_and_step-gone-requires c = record {
-  passes = c.loop-run.invariant.passes;
-  b_value = c.loop-run.invariant.limit;
+  passes = c.loop-done.invariant.passes;
+  b_value = c.loop-done.invariant.limit;
 }
+
+pub in_limits-requires : goal.in_limits-requires
+in_limits-requires c =
+    let gone = c.stride_and_step-gone.ensures.1 in record {
+      r_le_most_slots = (sizes_still _ _ _ _ _ _ c.loop-done.invariant.passes gone.m gone.r).0;
+      r_bound = (sizes_still _ _ _ _ _ _ c.loop-done.invariant.passes gone.m gone.r).1;
+    }
+
+pub loop-done-smaller : goal.loop-done-smaller
+loop-done-smaller c =
+    omega (arith, c.loop-done-test.true, c.stride_and_step-gone.ensures.0)
+
+pub loop-done-preserved : goal.loop-done-preserved
+loop-done-preserved c =
+    let gone = c.stride_and_step-gone.ensures.1 in
+    let lt = c.loop-done-test.true in
+    let most = c.stride_and_step-gone.ensures.0 in
+    let done = sym c.code.ensures ∙ c.if-code-ne0.false in record {
+      made = omega (arith, lt, most);
+      passes = gone.passes (sym c.if-not-in_limits.false ∙ c.in_limits.ensures);
+      limit = rw (gone.m, gone.r) c.loop-done.invariant.limit;
+      rest = c.loop-done.invariant.rest
+          ∙ gone_on _ _ _ _ _ _ gone _ _ _ _ (omega (arith, lt, most)) done;
+      few = omega (arith, gone.few, c.loop-done.invariant.few);
+      sum = on_summed _ _ _ _ _ _ gone _ _ _ c.loop-done.invariant.sum _
+          (omega (arith, lt, most)) done;
+    }
 
 pub returns-then-code-ne0 : goal.returns-then-code-ne0
 returns-then-code-ne0 c =
     let gone = c.stride_and_step-gone.ensures.1 in record {
       rec_value = refused_end _ _ _ _ _ _ gone _ _ _
-          (omega (arith, c.loop-run-test.true, c.stride_and_step-gone.ensures.0))
-          (λ z. c.if-code-ne0.true (c.code.ensures ∙ z)) ∙ sym c.loop-run.invariant.rest;
-      changed_value = refused_summed _ _ _ _ _ _ gone _ _ _ c.loop-run.invariant.sum
-          (omega (arith, c.loop-run-test.true, c.stride_and_step-gone.ensures.0))
+          (omega (arith, c.loop-done-test.true, c.stride_and_step-gone.ensures.0))
+          (λ z. c.if-code-ne0.true (c.code.ensures ∙ z)) ∙ sym c.loop-done.invariant.rest;
+      changed_value = refused_summed _ _ _ _ _ _ gone _ _ _ c.loop-done.invariant.sum
+          (omega (arith, c.loop-done-test.true, c.stride_and_step-gone.ensures.0))
           (λ z. c.if-code-ne0.true (c.code.ensures ∙ z));
-    }
-
-pub in_limits-requires : goal.in_limits-requires
-in_limits-requires c =
-    let gone = c.stride_and_step-gone.ensures.1 in record {
-      r_le_most_slots = (sizes_still _ _ _ _ _ _ c.loop-run.invariant.passes gone.m gone.r).0;
-      r_bound = (sizes_still _ _ _ _ _ _ c.loop-run.invariant.passes gone.m gone.r).1;
     }
 
 pub returns-then-not-in_limits : goal.returns-then-not-in_limits
@@ -50,34 +70,14 @@ returns-then-not-in_limits c =
     let done = sym c.code.ensures
     ∙ c.if-code-ne0.false in record {
       rec_value = spoilt_end _ _ _ _ _ _ gone spoilt done _ _ _ _
-          (omega (arith, c.loop-run-test.true, c.stride_and_step-gone.ensures.0))
-          c.ended.ensures.0 c.ended.ensures.1 ∙ sym c.loop-run.invariant.rest;
-      changed_value = spoilt_summed _ _ _ _ _ _ gone _ _ _ c.loop-run.invariant.sum spoilt done
-          (omega (arith, c.loop-run-test.true, c.stride_and_step-gone.ensures.0));
+          (omega (arith, c.loop-done-test.true, c.stride_and_step-gone.ensures.0))
+          c.ended-answer.ensures.0 c.ended-answer.ensures.1 ∙ sym c.loop-done.invariant.rest;
+      changed_value = spoilt_summed _ _ _ _ _ _ gone _ _ _ c.loop-done.invariant.sum spoilt done
+          (omega (arith, c.loop-done-test.true, c.stride_and_step-gone.ensures.0));
     }
 
-pub loop-run-smaller : goal.loop-run-smaller
-loop-run-smaller c =
-    omega (arith, c.loop-run-test.true, c.stride_and_step-gone.ensures.0)
-
-pub loop-run-preserved : goal.loop-run-preserved
-loop-run-preserved c =
-    let gone = c.stride_and_step-gone.ensures.1 in
-    let lt = c.loop-run-test.true in
-    let most = c.stride_and_step-gone.ensures.0 in
-    let done = sym c.code.ensures ∙ c.if-code-ne0.false in record {
-      made = omega (arith, lt, most);
-      passes = gone.passes (sym c.if-not-in_limits.false ∙ c.in_limits.ensures);
-      limit = rw (gone.m, gone.r) c.loop-run.invariant.limit;
-      rest = c.loop-run.invariant.rest
-          ∙ gone_on _ _ _ _ _ _ gone _ _ _ _ (omega (arith, lt, most)) done;
-      few = omega (arith, gone.few, c.loop-run.invariant.few);
-      sum = on_summed _ _ _ _ _ _ gone _ _ _ c.loop-run.invariant.sum _
-          (omega (arith, lt, most)) done;
-    }
-
-pub returns : goal.returns
-returns c = record {
-  rec_value = none_left _ _ _ _ (omega arith) ∙ sym c.loop-run.invariant.rest;
-  changed_value = none_summed _ _ _ _ c.loop-run.invariant.sum (omega arith);
+pub returns-after-loop-done : goal.returns-after-loop-done
+returns-after-loop-done c = record {
+  rec_value = none_left _ _ _ _ (omega arith) ∙ sym c.loop-done.invariant.rest;
+  changed_value = none_summed _ _ _ _ c.loop-done.invariant.sum (omega arith);
 }

@@ -10,21 +10,21 @@ use Rattle.rules.specs.Schedules.{collects}
 use Rattle.rules.specs.Changes.{changes_all}
 use Rattle.batch.proofs.all_steps.Given as goal
 
-abbrev pub invariant-loop-run : goal.invariant-loop-run
-invariant-loop-run l = record {
-  made : l.run.done ≤ l.n;
-  passes : Passes (state l.left l.right l.colour l.run.rec);
-  limit : l.b ≡ bound 2 l.run.rec.m l.run.rec.r;
-  rest : more l.n 0 l.initial.run.answer
-      (state l.initial.left l.initial.right l.initial.colour l.initial.run.rec)
-      ≡ more (l.n - l.run.done) l.run.done l.run.answer
-      (state l.left l.right l.colour l.run.rec);
-  few : l.run.changed ≤ l.run.done;
+abbrev pub invariant-loop-done : goal.invariant-loop-done
+invariant-loop-done l = record {
+  made : l.done ≤ l.n;
+  passes : Passes (state l.left l.right l.colour l.rec);
+  limit : l.b ≡ bound 2 l.rec.m l.rec.r;
+  rest : more l.n 0 l.initial.answer
+      (state l.initial.left l.initial.right l.initial.colour l.initial.rec)
+      ≡ more (l.n - l.done) l.done l.answer
+      (state l.left l.right l.colour l.rec);
+  few : l.changed ≤ l.done;
   sum : changes_all (collects l.n)
-      (state l.initial.left l.initial.right l.initial.colour l.initial.run.rec)
-      ≡ l.run.changed + changes_all (collects (l.n - l.run.done))
-      (state l.left l.right l.colour l.run.rec);
+      (state l.initial.left l.initial.right l.initial.colour l.initial.rec)
+      ≡ l.changed + changes_all (collects (l.n - l.done))
+      (state l.left l.right l.colour l.rec);
 }
 
-abbrev pub decreases-loop-run : goal.decreases-loop-run
-decreases-loop-run l = l.n - l.run.done
+abbrev pub decreases-loop-done : goal.decreases-loop-done
+decreases-loop-done l = l.n - l.done
