@@ -27,6 +27,7 @@ pub struct Many {
 }
 
 // At most cap steps of the record's phase at once.
+// Kept: the slices and the record are arguments of their own, lent and given in public calls.
 fn stride(left: &mut [u16], right: &mut [u16], colour: &mut [u8], x: Record, cap: usize) -> Ahead
     requires passes { Passes (state left.old right.old colour.old x) }
     requires room { Room x cap }
@@ -65,6 +66,7 @@ fn stride_and_step(
         result.done
         result.changed result.answer (state left.new right.new colour.new result.rec) }
 {
+    // Kept: `as`: there is no `From<u32>` for `usize`.
     let near = b - 1 - x.steps;
     let l = stride(left, right, colour, x, most.min(near as usize));
     let made = collector::phase_step(left, right, colour, l.rec, l.rec.phase);
@@ -105,12 +107,14 @@ pub fn all_steps(
     let mut answer = Answer::Named(0);
     let mut done = 0;
     let mut changed = 0;
+    // Kept: a `while`: a turn makes as many steps as its stride has, so no range counts them.
     while done < n {
         let gone = stride_and_step(left, right, colour, rec, b, n - done - 1);
         rec = gone.rec;
         answer = gone.answer;
         done += gone.done;
         changed += gone.changed;
+        // Kept: a refusal's code is a number of the rules (docs/RULES.md, Codes).
         if answer.code() != 0 {
             break;
         }
@@ -143,6 +147,7 @@ pub fn collect_many(
         ≡ changes_all (collects n) (given left.old right.old colour.old x) }
 {
     let code = rules::check(left.len(), right.len(), colour.len(), x);
+    // Kept: a number, as `check` of rules answers it (docs/RULES.md, Codes).
     if code != 0 {
         return Many {
             done: 0,

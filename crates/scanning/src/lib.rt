@@ -29,6 +29,7 @@ struct ScanAt {
     changed: usize,
 }
 
+// Kept: `as`: a `usize` has no `From` into a narrower type, and each value is proved to fit.
 fn standing(mut x: Record, s: ScanAt) -> Record
     requires i_lt_most_nodes { s.i < most_nodes }
     requires k_le_most_nodes { s.k ≤ most_nodes }
@@ -60,6 +61,7 @@ fn gap(i: usize, t: usize, m: usize) -> usize
 }
 
 // How far it is from i on to t, a whole round if they are the same.
+// Kept: beside `gap`, since for i = t that one answers 0 and this one m.
 fn beyond(i: usize, t: usize, m: usize) -> usize
     requires i_lt_m { i < m }
     requires t_lt_m { t < m }
@@ -120,6 +122,7 @@ fn can_follow(colour: &[u8], e: u16, f: u16) -> bool
 }
 
 // Shades a node; 1 where that makes it gray.
+// Kept: a number, since `spread` sums it, and `value` is that it is how many colours differ.
 fn shade_and_count(colour: &mut [u8], n: u16) -> usize
     requires { n < length colour.old }
     ensures upper_bound { (result ≤ 1) × ((colour.new
@@ -200,6 +203,7 @@ struct Chain {
 }
 
 // What a marking goes by: the edges, the record that it began at, and how many steps it may make.
+// Kept: `Valid` is a clause of each method, since it speaks of the colours, which the caller lends.
 #[derive(Clone, Copy)]
 struct Marker<'a> {
     left: &'a [u16],
@@ -213,8 +217,8 @@ impl<'a> Marker<'a> {
     // The looks that find nothing, all at once.
     fn look_on(self, colour: &[u8], s: ScanAt) -> ScanAt
         requires { Valid self.left.now self.right.now colour.now self.x self.cap s }
-        ensures { ScanLeads self.entry.left.now self.entry.right.now colour.now self.entry.x self.entry.cap s
-            colour.now result }
+        ensures { ScanLeads self.entry.left.now self.entry.right.now colour.now
+            self.entry.x self.entry.cap s colour.now result }
     {
         let e = idle_looks(colour, s, (self.cap - s.d).min(s.k - 1));
         ScanAt {
@@ -229,7 +233,8 @@ impl<'a> Marker<'a> {
     fn can_visit(self, colour: &[u8], s: ScanAt) -> bool
         requires { Valid self.left.now self.right.now colour.now self.x self.cap s }
         ensures { result ≡ true
-            → CanVisit self.entry.left.now self.entry.right.now colour.now self.entry.x self.entry.cap s }
+            → CanVisit self.entry.left.now self.entry.right.now colour.now
+            self.entry.x self.entry.cap s }
     {
         6 <= self.cap - s.d
             && s.blackened < colour.len()
@@ -242,8 +247,8 @@ impl<'a> Marker<'a> {
     fn visit(self, colour: &mut [u8], s: ScanAt) -> ScanAt
         requires valid { Valid self.left.now self.right.now colour.old self.x self.cap s }
         requires can_visit { CanVisit self.left.now self.right.now colour.old self.x self.cap s }
-        ensures leads { ScanLeads self.entry.left.now self.entry.right.now colour.old self.entry.x self.entry.cap s
-            colour.new result }
+        ensures leads { ScanLeads self.entry.left.now self.entry.right.now colour.old
+            self.entry.x self.entry.cap s colour.new result }
         ensures six { result.d ≡ s.d + 6 }
     {
         let m = colour.len();
@@ -275,8 +280,8 @@ impl<'a> Marker<'a> {
         requires one_gray { OneGray colour.old self.x self.cap s }
         requires follows { Follows self.left.now self.right.now colour.old self.x self.cap s
             colour.old from }
-        ensures { Follows self.entry.left.now self.entry.right.now colour.old self.entry.x self.entry.cap s
-            colour.new result }
+        ensures { Follows self.entry.left.now self.entry.right.now colour.old
+            self.entry.x self.entry.cap s colour.new result }
     {
         let m = colour.len();
         let limit = self.cap - (m + 5);
@@ -300,8 +305,8 @@ impl<'a> Marker<'a> {
     // Follows a chain where the node made gray last is the only one.
     fn follow(self, colour: &mut [u8], s: ScanAt) -> ScanAt
         requires { Valid self.left.now self.right.now colour.old self.x self.cap s }
-        ensures { ScanLeads self.entry.left.now self.entry.right.now colour.old self.entry.x self.entry.cap s
-            colour.new result }
+        ensures { ScanLeads self.entry.left.now self.entry.right.now colour.old
+            self.entry.x self.entry.cap s colour.new result }
     {
         if !self.one_gray(colour, s) {
             return s;
@@ -330,8 +335,8 @@ impl<'a> Marker<'a> {
     fn look_and_visit(self, colour: &mut [u8], s: ScanAt) -> Option<ScanAt>
         requires { Valid self.left.now self.right.now colour.old self.x self.cap s }
         ensures { MatchOption result (colour.new ≡ colour.old) (λ t. (s.d < t.d)
-            × ScanLeads self.entry.left.now self.entry.right.now colour.old self.entry.x self.entry.cap s
-            colour.new t) }
+            × ScanLeads self.entry.left.now self.entry.right.now colour.old
+            self.entry.x self.entry.cap s colour.new t) }
     {
         if s.d == self.cap {
             return None;
@@ -347,8 +352,8 @@ impl<'a> Marker<'a> {
     // Looks and visits for as long as they lead on.
     fn marking(self, colour: &mut [u8], from: ScanAt) -> ScanAt
         requires { Valid self.left.now self.right.now colour.old self.x self.cap from }
-        ensures { ScanLeads self.entry.left.now self.entry.right.now colour.old self.entry.x self.entry.cap from
-            colour.new result }
+        ensures { ScanLeads self.entry.left.now self.entry.right.now colour.old
+            self.entry.x self.entry.cap from colour.new result }
     {
         let mut s = from;
         while let Some(t) = self.look_and_visit(colour, s) {
@@ -371,6 +376,7 @@ fn most_stops(colour: &[u8], cap: usize) -> usize
 }
 
 // Scan i, k: at most cap steps, none of them the last look.
+// Kept: the slices and the record are arguments of their own, which the caller lends and gives.
 pub fn scans(
     left: &[u16],
     right: &[u16],

@@ -4,9 +4,6 @@ use native.Mathlib.Omega.{arith}
 use Rattle.scanning.proofs.Marks.{goes_on}
 use Rattle.scanning.proofs.Marker.look_and_visit.Goals as goal
 
-pub can_visit-requires : goal.can_visit-requires
-can_visit-requires c = c.look_on-h.ensures.valid
-
 pub returns-then-can_visit : goal.returns-then-can_visit
 returns-then-can_visit c =
     let a = c.look_on-h.ensures.low in let b = c.follow.ensures.low in (
