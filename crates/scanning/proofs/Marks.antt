@@ -15,7 +15,7 @@ use Rattle.rules.proofs.Checked.{good, inside}
 use Rattle.skim.specs.Stops.{stop, stops, NoStop}
 use Rattle.skim.proofs.Counts.{changed, counts}
 use Rattle.ahead.specs.Leads.{Passes, Room, Leads}
-use Rattle.ahead.proofs.Strides.{Sized, sized, stay, on}
+use Rattle.ahead.proofs.Strides.{Sized, sized, on}
 use Rattle.ahead.proofs.Looks.{looks}
 use Rattle.ahead.proofs.Visits as strides
 use Rattle.ahead.proofs.Visits.{gray_kept}
@@ -46,16 +46,6 @@ at l k c x s p =
       steps = g.steps;
       sizes = sized l k c (standing x s) p;
     }
-
--- no step
-pub stays : (l k c : List ℕ) (x : Record) (cap : ℕ) (s : ScanAt) → Valid l k c x cap s
-    → ScanLeads l k c x cap s c s
-stays l k c x cap s p = record {
-  low = omega arith;
-  counted = omega arith;
-  leads = stay _ _ _ (omega arith) (omega arith) p.passes;
-  valid = p;
-}
 
 pub goes_on : (l k c : List ℕ) (x : Record) (cap : ℕ) (s : ScanAt) (c' : List ℕ) (t : ScanAt)
     (c'' : List ℕ) (r : ScanAt) → ScanLeads l k c x cap s c' t
