@@ -28,6 +28,7 @@ ghost use Rattle.jenturik_c.specs.Version.{VERSION};
 ghost use Rattle.rules.specs.Lent.{given};
 
 use rules::{Answer, Phase, Place, Ran, Record, Step};
+use schedule::Steps;
 
 // The library's version, as JENTURIK_VERSION_NUMBER of include/jenturik.h has it.
 const VERSION: u32 = 4007;
@@ -637,6 +638,24 @@ fn step_at(steps: &[u32], i: usize) -> Step
     }
 }
 
+// A schedule as words: its whole steps.
+#[derive(Clone, Copy)]
+struct Words<'a> {
+    words: &'a [u32],
+}
+
+impl<'a> Steps for Words<'a> {
+    ghost list = { λ s. steps_of s.words.now };
+
+    fn count(&self) -> usize {
+        self.words.len() / STEP_WORDS
+    }
+
+    fn at(&self, i: usize) -> Step {
+        step_at(self.words, i)
+    }
+}
+
 // The whole steps of a schedule of words, in order until one is refused.
 fn follow(steps: &[u32], left: &mut [u16], right: &mut [u16], colour: &mut [u8], x: Record) -> Ran
     ensures colour_value { ran result left.new right.new colour.new
@@ -644,24 +663,7 @@ fn follow(steps: &[u32], left: &mut [u16], right: &mut [u16], colour: &mut [u8],
     ensures changed_value { result.changed
         ≡ changes_all (steps_of steps.now) (given left.old right.old colour.old x) }
 {
-    let mut g = schedule::begin(
-        left.len(),
-        right.len(),
-        colour.len(),
-        x,
-        steps.len() / STEP_WORDS,
-    );
-    while g.at < g.end {
-        g = schedule::advance(left, right, colour, g, step_at(steps, g.at));
-    }
-    let rec = g.rec;
-    Ran {
-        done: g.at,
-        code: g.code,
-        detail: g.detail,
-        changed: g.changed,
-        rec,
-    }
+    schedule::run(&Words { words: steps }, left, right, colour, x)
 }
 
 // A schedule of words: none of it is done where the last step lacks some.

@@ -8,8 +8,14 @@ use Rattle.collector.proofs.shade_step.Goals as goal
 
 pub returns-then-colour-from-gt-BLACK : goal.returns-then-colour-from-gt-BLACK
 unfolding shade_step
-returns-then-colour-from-gt-BLACK c = record { by_index = λ es. rw c.refusal.ensures (search (tests, rules) depth 12); changed_value = rw c.refusal.ensures (unchanged _) }
+returns-then-colour-from-gt-BLACK c = record {
+  by_index = λ es. rw c.refusal.ensures (search (tests, rules) depth 12);
+  changed_value = rw c.refusal.ensures (unchanged _);
+}
 
 pub returns : goal.returns
 unfolding shade_step
-returns c = record { by_index = λ es. search (same, tests, rules) depth 12; changed_value = search rules }
+returns c = record {
+  by_index = λ es. search (same, tests, rules) depth 12;
+  changed_value = search rules;
+}

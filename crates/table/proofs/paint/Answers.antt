@@ -5,4 +5,6 @@ use Rattle.table.proofs.Painted.{painted}
 use Rattle.table.proofs.paint.Goals as goal
 
 pub returns-clause-value : goal.returns-clause-value
-returns-clause-value c = c.from-changed.ensures ∙ painted _ _ _ (omega (arith, c.from-at.ensures, c.requires))
+returns-clause-value c =
+    c.from-changed.ensures
+    ∙ painted _ _ _ (omega (arith, c.from-at.ensures, c.requires))
