@@ -24,6 +24,7 @@ pub const COLLECT: u32 = 3;
 const LOOK: u32 = 4;
 
 // [Steps 1] The place that a step names first, and the target of a link.
+// Kept: two functions and no `From`, since a step holds two places.
 fn source(a: Step) -> Place
     ensures { result ≡ source a }
 {

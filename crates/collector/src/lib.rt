@@ -153,6 +153,7 @@ fn append_step(left: &mut [u16], right: &mut [u16], colour: &mut [u8], x: Record
 }
 
 // The step of a phase, where neither code 1 nor 2 is given.
+// Kept: the phase stands beside the record, since `any_phase` hands over one that it made anew.
 pub fn phase_step(
     left: &mut [u16],
     right: &mut [u16],

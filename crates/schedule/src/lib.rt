@@ -86,8 +86,9 @@ fn in_phase(
     after(so_far, collector::phase_step(left, right, colour, x, phase))
 }
 
-// The collector's step. Each phase has a call of its own, which the compiler makes a path of its
-// own up to the next step: where the paths meet before it, a step takes a fifth longer.
+// The collector's step.
+// Kept: an arm for each phase, which the compiler makes a path of its own up to the next step;
+// where the paths meet before it, a step takes a fifth longer.
 fn any_phase(left: &mut [u16], right: &mut [u16], colour: &mut [u8], so_far: Ran) -> Ran
     requires goes { Goes so_far (state left.old right.old colour.old so_far.rec) }
     requires value { 0 ≡ check (state left.old right.old colour.old so_far.rec) }
