@@ -1,11 +1,13 @@
 -- What is put into a buffer, part by part.
-use Prim.Native.Nat.{ℕ, ◌+◌, ◌<◌, ◌≤◌}
+use Prim.Native.Nat.{ℕ, suc, ◌+◌, ◌-◌, ◌<◌, ◌≤◌}
 use mathlib.Core.Path.{◌≡◌, refl, sym, ◌∙◌, ap}
-use mathlib.Core.List.{List, [], ◌∷◌, ◌++◌, append-nil}
+use mathlib.Core.List.{List, [], ◌∷◌, ◌++◌, append-nil, append_assoc}
 use native.Mathlib.Omega.{arith}
 use native.Mathlib.Numerals.{add-one}
 use borrow.Author.Tests.{lt-ltb, le-ltb}
-use lib.ListN.{length, get_or, drop, set, drop_of_length-le, length-append, length-set}
+use borrow.Rule.Slice.PartMut.{put_mid, Post-is}
+use Rattle.std.proofs.lemmas.List.Edits.{sets-eq, sets}
+use lib.ListN.{length, get_or, take, drop, set, drop_of_length-le, length-append, length-set}
 use lib.Seq.{drop-cons, take-suc-set, append_snoc}
 use Rattle.base.specs.Choice.{pick}
 use Rattle.base.proofs.Tests.{split}
@@ -35,14 +37,26 @@ put_room : (w : Written) (b : ℕ) → w.used < length w.out → put w b
 unfolding put pick
 put_room w b h = rw (lt-ltb _ _ h)
 
--- where there is room for byte k of a word, it stands behind the k before it
-pub put_next : (out : List ℕ) (used k : ℕ) (word : List ℕ) → k < length word
-    → used + k < length out → put_all (written out (used + k)) (drop k word)
-    ≡ put_all (written (set out (used + k) (get_or word k 0)) (used + (k + 1))) (drop (k + 1) word)
-put_next out used k word h r =
-    put_turn _ k word h ∙ rw (put_room (written out (used + k)) (get_or word k 0) r)
-    (ap (λ n. put_all (written (set out (used + k) (get_or word k 0)) n) (drop (k + 1) word))
-    (omega arith))
+-- where there is room, a word stands behind what is used, and the rest is as it was
+put_sets : (word out : List ℕ) (used : ℕ) → used + length word ≤ length out
+    → written (sets out used word) (used + length word) ≡ put_all (written out used) word
+unfolding put_all
+put_sets [] out used h = ap (λ n. written out n) (omega arith)
+put_sets (b ∷ word) out used h =
+    rw (put_room (written out used) b (omega arith), add-one used)
+    (ap (λ n. written (sets (set out used b) (suc used) word) n) (omega arith)
+    ∙ put_sets word (set out used b) (suc used) (omega (arith, length-set out used b)))
+
+pub put_fits : (word out : List ℕ) (used : ℕ) → used + length word ≤ length out
+    → written (put_mid used (used + length word - used) out word) (used + length word)
+    ≡ put_all (written out used) word
+put_fits word out used h =
+    rw (
+      Post-is used (used + length word) out (omega arith),
+      ← append_assoc (take used out) word (drop (used + length word) out),
+      ← sets-eq word out used h,
+    )
+    (put_sets word out used h)
 
 pub put_full : (w : Written) (b : ℕ) → length w.out ≤ w.used → put w b ≡ w
 unfolding put pick

@@ -329,11 +329,7 @@ fn put_whole(out: &mut [u8], used: usize, word: &[u8])
     ensures { written out.new (used + length word.now)
         ≡ put_all (written out.old used) word.now }
 {
-    let mut k = 0;
-    while k < word.len() {
-        out[used + k] = word[k];
-        k += 1;
-    }
+    out[used..used + word.len()].copy_from_slice(word);
 }
 
 // Bytes more of the output, one by one, as far as there is room; answers how much is used.
@@ -341,10 +337,8 @@ fn put_part(out: &mut [u8], used: usize, word: &[u8]) -> usize
     ensures { written out.new result ≡ put_all (written out.old used) word.now }
 {
     let mut at = used;
-    let mut k = 0;
-    while k < word.len() {
-        at = put(out, at, word[k]);
-        k += 1;
+    for b in word {
+        at = put(out, at, *b);
     }
     at
 }
@@ -353,10 +347,7 @@ fn put_part(out: &mut [u8], used: usize, word: &[u8]) -> usize
 pub fn put_all(out: &mut [u8], used: usize, word: &[u8]) -> usize
     ensures { written out.new result ≡ put_all (written out.old used) word.now }
 {
-    if out.len() < used {
-        return put_part(out, used, word);
-    }
-    if out.len() - used < word.len() {
+    if out.len() < used || out.len() - used < word.len() {
         return put_part(out, used, word);
     }
     put_whole(out, used, word);
@@ -370,7 +361,7 @@ fn digit(out: &mut [u8], used: usize, n: u16, ten: u16) -> usize
     if n < ten {
         return used;
     }
-    put(out, used, 48 + (n / ten % 10) as u8)
+    put(out, used, b'0' + (n / ten % 10) as u8)
 }
 
 fn decimal(out: &mut [u8], used: usize, n: u16) -> usize
@@ -380,7 +371,7 @@ fn decimal(out: &mut [u8], used: usize, n: u16) -> usize
     let b = digit(out, a, n, 1000);
     let c = digit(out, b, n, 100);
     let d = digit(out, c, n, 10);
-    put(out, d, 48 + (n % 10) as u8)
+    put(out, d, b'0' + (n % 10) as u8)
 }
 
 // Puts an answer's line behind the bytes of the output that are used, as far as there is room;
@@ -389,8 +380,8 @@ pub fn say(out: &mut [u8], used: usize, code: u8, node: u16) -> usize
     ensures { written out.new result ≡ put_all (written out.old used) (said code node) }
 {
     let a = put_all(out, used, b"code=");
-    let b = decimal(out, a, code as u16);
+    let b = decimal(out, a, u16::from(code));
     let c = put_all(out, b, b" node=");
     let d = decimal(out, c, node);
-    put(out, d, 10)
+    put(out, d, b'\n')
 }
