@@ -38,10 +38,7 @@ fn answered(d: Made) -> Told
 fn start_of(done: usize, i: u16) -> u16
     ensures { result ≡ start_of done i }
 {
-    if done == 0 {
-        return 0;
-    }
-    i
+    if done == 0 { 0 } else { i }
 }
 
 // So many collector steps, until one is refused.
@@ -108,16 +105,10 @@ pub fn later(left: &mut [u16], right: &mut [u16], colour: &mut [u8], x: Record, 
     ensures { prints result.code result.node (state left.new right.new colour.new result.rec)
         ≡ later (read line.now) (given left.old right.old colour.old x) }
 {
-    let said = text::read(line);
-    match said {
+    match text::read(line) {
         Said::Do(a) => answered(calls::step(left, right, colour, x, a)),
         Said::Collect(n) => collect(left, right, colour, x, n),
-        Said::First(_, _) => Told {
-            code: 10,
-            node: 0,
-            rec: x,
-        },
-        Said::Unreadable => Told {
+        Said::First(_, _) | Said::Unreadable => Told {
             code: 10,
             node: 0,
             rec: x,
@@ -152,7 +143,7 @@ fn start(left: &mut [u16], right: &mut [u16], colour: &mut [u8], m: usize, r: us
         ≡ placed (fresh m r (take m left.old ∷ take m right.old ∷ []) (take m colour.old))
         (drop m left.old) (drop m right.old) (drop m colour.old) }
 {
-    answered(fresh::fresh(&mut left[0..m], &mut right[0..m], &mut colour[0..m], m, r))
+    answered(fresh::fresh(&mut left[..m], &mut right[..m], &mut colour[..m], m, r))
 }
 
 // A first line that fails: no table.
@@ -173,13 +164,7 @@ fn begin(left: &mut [u16], right: &mut [u16], colour: &mut [u8], m: u32, r: u32)
         ≡ opened (Said.First m r) left.old right.old colour.old }
 {
     let nodes = m as usize;
-    if left.len() < nodes {
-        return refused(1);
-    }
-    if right.len() < nodes {
-        return refused(1);
-    }
-    if colour.len() < nodes {
+    if left.len() < nodes || right.len() < nodes || colour.len() < nodes {
         return refused(1);
     }
     start(left, right, colour, nodes, r as usize)
@@ -191,11 +176,8 @@ pub fn first(left: &mut [u16], right: &mut [u16], colour: &mut [u8], line: &[u8]
     ensures { prints result.code result.node (state left.new right.new colour.new result.rec)
         ≡ opened (read line.now) left.old right.old colour.old }
 {
-    let said = text::read(line);
-    match said {
+    match text::read(line) {
         Said::First(m, r) => begin(left, right, colour, m, r),
-        Said::Do(_) => refused(10),
-        Said::Collect(_) => refused(10),
-        Said::Unreadable => refused(10),
+        Said::Do(_) | Said::Collect(_) | Said::Unreadable => refused(10),
     }
 }
