@@ -323,35 +323,16 @@ pub fn put(out: &mut [u8], used: usize, b: u8) -> usize
     used
 }
 
-// Bytes more of the output, which has room for all of them.
-fn put_whole(out: &mut [u8], used: usize, word: &[u8])
-    requires { used + length word.now ≤ length out.old }
-    ensures { written out.new (used + length word.now)
-        ≡ put_all (written out.old used) word.now }
-{
-    out[used..used + word.len()].copy_from_slice(word);
-}
-
-// Bytes more of the output, one by one, as far as there is room; answers how much is used.
-fn put_part(out: &mut [u8], used: usize, word: &[u8]) -> usize
-    ensures { written out.new result ≡ put_all (written out.old used) word.now }
-{
-    let mut at = used;
-    for b in word {
-        at = put(out, at, *b);
-    }
-    at
-}
-
 // Bytes more of the output, as far as there is room; answers how much is used.
 pub fn put_all(out: &mut [u8], used: usize, word: &[u8]) -> usize
     ensures { written out.new result ≡ put_all (written out.old used) word.now }
 {
-    if out.len() < used || out.len() - used < word.len() {
-        return put_part(out, used, word);
+    if out.len() < used {
+        return used;
     }
-    put_whole(out, used, word);
-    used + word.len()
+    let n = usize::min(out.len() - used, word.len());
+    out[used..used + n].copy_from_slice(&word[..n]);
+    used + n
 }
 
 fn digit(out: &mut [u8], used: usize, n: u16, ten: u16) -> usize
