@@ -3,11 +3,11 @@
 #![tactic(auto)]
 
 ghost use Rattle.std.specs.Prelude.{◌≡◌, ℕ, ◌+◌, ◌≤◌, ◌<◌, List, [], ◌∷◌, length, take, drop};
-ghost use Rattle.rules.specs.Table.{state, outcome};
+ghost use Rattle.rules.specs.Table.{state};
 ghost use Rattle.rules.specs.Fresh.{fresh};
 ghost use Rattle.rules.specs.Schedules.{ran, schedule, collects};
 ghost use Rattle.text.specs.Grammar.{read};
-ghost use Rattle.lines.specs.Lines.{prints, answered, start_of, collected, later, placed};
+ghost use Rattle.lines.specs.Lines.{prints, start_of, collected, later, placed};
 ghost use Rattle.lines.specs.Lines.{loaded, failed, opened};
 ghost use Rattle.rules.specs.Lent.{given};
 
@@ -22,16 +22,23 @@ pub struct Told {
     pub rec: Record,
 }
 
-fn answered(d: Made) -> Told
-    ensures { (l r c : List ℕ) → prints result.code result.node (state l r c result.rec)
-        ≡ answered (outcome d l r c) }
-{
-    let answer = d.answer;
-    let rec = d.rec;
-    Told {
-        code: answer.code(),
-        node: answer.node(),
-        rec,
+// A line prints the answer's code and node.
+impl From<Made> for Told {
+    ghost use Rattle.std.specs.Prelude.{◌≡◌, ℕ, List};
+    ghost use Rattle.rules.specs.Table.{state, outcome};
+    ghost use Rattle.lines.specs.Lines.{prints, answered};
+
+    ghost from_gives = { λ d t. (l r c : List ℕ) → prints t.code t.node (state l r c t.rec)
+        ≡ answered (outcome d l r c) };
+
+    fn from(d: Made) -> Told {
+        let answer = d.answer;
+        let rec = d.rec;
+        Told {
+            code: answer.code(),
+            node: answer.node(),
+            rec,
+        }
     }
 }
 
@@ -106,7 +113,7 @@ pub fn later(left: &mut [u16], right: &mut [u16], colour: &mut [u8], x: Record, 
         ≡ later (read line.now) (given left.old right.old colour.old x) }
 {
     match text::read(line) {
-        Said::Do(a) => answered(calls::step(left, right, colour, x, a)),
+        Said::Do(a) => Told::from(calls::step(left, right, colour, x, a)),
         Said::Collect(n) => collect(left, right, colour, x, n),
         Said::First(_, _) | Said::Unreadable => Told {
             code: 10,
@@ -129,9 +136,9 @@ pub fn load(
     ensures { prints result.code result.node (state left.new right.new colour.new result.rec)
         ≡ loaded lefts.now rights.now (given left.old right.old colour.old x) }
 {
-    let m = x.m;
-    let r = x.r;
-    answered(load::load(lefts, rights, left, right, colour, m as usize, r as usize))
+    let m = usize::from(x.m);
+    let r = usize::from(x.r);
+    Told::from(load::load(lefts, rights, left, right, colour, m, r))
 }
 
 // A fresh table in the first m entries.
@@ -143,7 +150,7 @@ fn start(left: &mut [u16], right: &mut [u16], colour: &mut [u8], m: usize, r: us
         ≡ placed (fresh m r (take m left.old ∷ take m right.old ∷ []) (take m colour.old))
         (drop m left.old) (drop m right.old) (drop m colour.old) }
 {
-    answered(fresh::fresh(&mut left[..m], &mut right[..m], &mut colour[..m], m, r))
+    Told::from(fresh::fresh(&mut left[..m], &mut right[..m], &mut colour[..m], m, r))
 }
 
 // A first line that fails: no table.

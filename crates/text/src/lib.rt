@@ -305,12 +305,16 @@ pub fn entry(line: &[u8], n: usize) -> Option<Edges>
         return None;
     }
     let row = whole(entry_line(line))?;
+    // Kept: the library has no `From<u32>` for `usize`.
     if row.node as usize == n {
         Some(row.edges)
     } else {
         None
     }
 }
+
+// Kept: the output is lent by the C interface (`jenturik_turn`) with a fixed length, and how much of
+// it is used goes by value with the run, so `put`, `put_all` and `say` take and answer that number.
 
 // One byte more of the output, where there is room; answers how much is used.
 pub fn put(out: &mut [u8], used: usize, b: u8) -> usize
@@ -348,6 +352,7 @@ fn digit(out: &mut [u8], used: usize, n: u16, ten: u16) -> usize
 fn decimal(out: &mut [u8], used: usize, n: u16) -> usize
     ensures { written out.new result ≡ put_all (written out.old used) (decimal n) }
 {
+    // Kept: a loop over the four powers has as many lines, and an invariant besides.
     let a = digit(out, used, n, 10000);
     let b = digit(out, a, n, 1000);
     let c = digit(out, b, n, 100);

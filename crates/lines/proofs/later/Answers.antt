@@ -6,7 +6,7 @@ use Rattle.lines.proofs.later.Goals as goal
 pub returns-in-Do : goal.returns-in-Do
 unfolding later
 returns-in-Do c =
-    rw (← c.read.ensures, c.in-Do.is, ← c.step.ensures.colour_value) (c.answered.ensures _ _ _)
+    rw (← c.read.ensures, c.in-Do.is, ← c.step.ensures.colour_value) (c.from.ensures _ _ _)
 
 pub returns-in-Collect : goal.returns-in-Collect
 unfolding later

@@ -3,4 +3,4 @@
 use Rattle.lines.proofs.start.Goals as goal
 
 pub returns : goal.returns
-returns c = rw (← c.fresh.ensures.colour_value) (c.answered.ensures _ _ _)
+returns c = rw (← c.fresh.ensures.colour_value) (c.from.ensures _ _ _)
