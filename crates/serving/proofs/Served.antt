@@ -1,50 +1,59 @@
--- Where a session stands after the lines of a table: what the code leaves is what the line makes of
+-- Where a session stands after the lines of a table: what the code leaves is what the bytes make of
 -- it.
-use Prim.Native.Nat.{ℕ, min}
-use mathlib.Core.Path.{◌≡◌}
-use mathlib.Core.List.{List, ◌++◌}
-use lib.ListN.{length, take, drop}
+use Prim.Native.Nat.{ℕ}
+use mathlib.Core.Bool.{Bool, true, false}
+use mathlib.Core.Path.{◌≡◌, refl, sym, ap, ◌∙◌}
+use mathlib.Core.List.{List, [], ◌∷◌, ◌++◌}
+use lib.ListN.{take, drop}
 use lib.Dec.{eqb}
-use Rattle.std.proofs.lemmas.List.{take_min}
 use Rattle.base.specs.Choice.{pick}
 use Rattle.rules.specs.Table.{state}
 use Rattle.rules.specs.declared.Record.{Record}
 use Rattle.text.specs.Grammar.{read}
 use Rattle.text.specs.Answers.{written, put_all, said}
-use Rattle.lines.specs.Lines.{prints, opened, later}
-use Rattle.session.specs.Feeding.{standing, begun, ended, line_ended}
-use Rattle.session.specs.Replaces.{Replaces}
+use Rattle.lines.specs.Lines.{prints, opened}
+use Rattle.session.specs.Feeding.{newline, fold, Going, standing, begun, line_ended, eaten, eats}
 use Rattle.session.specs.declared.Run.{Run}
 use Rattle.session.specs.declared.Stage.{Stage}
 use Rattle.session.specs.declared.Stage.TheVariants.{Opening, Second, Serving, Over}
 use Rattle.session.proofs.Parts.{Lent}
+use Rattle.session.proofs.Stands.{stands}
+use Rattle.serving.specs.Serving.{going, next_byte}
 
--- a line in the parts that were lent
-pub replaced : (m n code node : ℕ) (l k c l' k' c' line : List ℕ) (a b d i : ℕ) (x y : Record)
-    → Lent m a l l' → Lent m b k k' → Lent m d c c' → i ≡ min n (length line)
-    → prints code node (state l' k' c' y) ≡ later (read (take i line))
-    (state (take a l) (take b k) (take d c) x)
-    → Replaces m (later (read (take n line))) (state l k c x) code node
-    (state (l' ++ drop a l) (k' ++ drop b k) (c' ++ drop d c) y)
-replaced m n code node l k c l' k' c' line a b d i x y p q s u e =
-    let w : take i line ≡ take n line = rw u (take_min n line) in
-    record {
-      front = rw (p.first, q.first, s.first) (rw (w, p.given, q.given, s.given) at e);
-      left = p.rest;
-      right = q.rest;
-      colour = s.rest;
-    }
+-- while a table is served its lines go on, and nothing else changes
+module _ (m : ℕ) (l k c ls rs : List ℕ) where
+  serves_byte : (g : Going) (b : ℕ) → eats (stands (Serving m) l k c ls rs g) b
+      ≡ stands (Serving m) l k c ls rs (next_byte g b)
+  unfolding eaten line_ended next_byte pick
+  serves_byte g b = go (eqb b newline) refl
+    where
+      go : (t : Bool) → eqb b newline ≡ t → eats (stands (Serving m) l k c ls rs g) b
+          ≡ stands (Serving m) l k c ls rs (next_byte g b)
+      go true e = rw e
+      go false e = rw e
 
--- the line at hand is answered
-pub ended_so : (g : Run) (m code node used : ℕ) (l k c l' k' c' ls rs line out out' : List ℕ)
-    (x : Record)
-    → Replaces m (later (read (take g.at line))) (state l k c g.rec) code node (state l' k' c' x)
-    → written out' used ≡ put_all (written out g.used) (said code node)
-    → standing (Serving m) (record { rec = x; at = 0; used = used }) l' k' c' ls rs line out'
-    ≡ line_ended (Serving m) (standing (Serving m) g l k c ls rs line out)
-unfolding standing line_ended ended
-ended_so g m code node used l k c l' k' c' ls rs line out out' x e d =
-    rw (← e.front, ← d, e.left, e.right, e.colour)
+  serves : (input : List ℕ) (g : Going) → fold eats input (stands (Serving m) l k c ls rs g)
+      ≡ stands (Serving m) l k c ls rs (fold next_byte input g)
+  unfolding fold
+  serves [] g = refl
+  serves (b ∷ input) g = ap (fold eats input) (serves_byte g b) ∙ serves input (next_byte g b)
+
+-- l', k' and c' are the parts as they came back, x and y what is kept beside them
+pub served : (m : ℕ) (l k c input l' k' c' line out line' out' : List ℕ) (a b d : ℕ) (x y : Run)
+    → Lent m a l l' → Lent m b k k' → Lent m d c c'
+    → going y l' k' c' line' out' ≡ fold next_byte input
+    (going x (take a l) (take b k) (take d c) line out)
+    → (ls rs : List ℕ)
+    → standing (Serving m) y (l' ++ drop a l) (k' ++ drop b k) (c' ++ drop d c) ls
+    rs line' out'
+    ≡ fold eats input (standing (Serving m) x l k c ls rs line out)
+unfolding standing going
+served m l k c input l' k' c' line out line' out' a b d x y p q s e ls rs =
+    rw (p.first, q.first, s.first, p.rest, q.rest, s.rest)
+    (ap (stands (Serving m) (drop m l) (drop m k) (drop m c) ls rs)
+    (rw (p.given, q.given, s.given) at e)
+    ∙ sym (serves m (drop m l) (drop m k) (drop m c) ls rs input
+    (going x (take m l) (take m k) (take m c) line out)))
 
 -- the first line is answered, and leads to this stage
 pub begun_so : (g : Run) (x : Record) (st : Stage) (code node used : ℕ)

@@ -1,17 +1,149 @@
-// The lines of a table: the first one, which makes it, and the steps.
+// The lines of a table: the first one, which makes it, and the steps, a line at a time up to a
+// block's end.
 #![tactic(auto)]
 
-ghost use Rattle.std.specs.Prelude.{◌≡◌, take};
+ghost use Rattle.std.specs.Prelude.{◌≡◌, ◌<◌, length, take, drop};
 ghost use Rattle.rules.specs.Table.{state};
 ghost use Rattle.rules.specs.Lent.{given};
 ghost use Rattle.text.specs.Grammar.{read};
 ghost use Rattle.lines.specs.Lines.{prints, opened, later};
-ghost use Rattle.session.specs.Feeding.{standing_in, stand_in, SameSlices, begun, line_ended};
-ghost use Rattle.session.specs.Replaces.{Replaces};
+ghost use Rattle.session.specs.Feeding.{fold, ended, eats, standing_in, stand_in, SameSlices};
+ghost use Rattle.session.specs.Feeding.{begun};
+ghost use Rattle.serving.specs.Serving.{going, next_byte, fed, next_line};
 
 use lines::Told;
 use rules::Record;
 use session::{Buffers, Run, Session, Stage};
+
+// The position of the next byte, and where the bytes before it led.
+#[derive(Clone, Copy)]
+pub struct Fed {
+    pub next: usize,
+    pub run: Run,
+}
+
+// Kept: five slices and a Run go through the loop over the lines of a block. Tried: one `&mut
+// Buffers` and a Session, with the table's entries lent for each line, took 17 % more time for
+// 1,000,000 lines (146 ms against 125 ms).
+
+// The line that the first n bytes of a buffer are.
+fn later_of(
+    left: &mut [u16],
+    right: &mut [u16],
+    colour: &mut [u8],
+    x: Record,
+    line: &[u8],
+    n: usize,
+) -> Told
+    ensures { prints result.code result.node (state left.new right.new colour.new result.rec)
+        ≡ later (read (take n line.now)) (given left.old right.old colour.old x) }
+{
+    let end = n.min(line.len());
+    lines::later(left, right, colour, x, &line[..end])
+}
+
+// The line at hand is at its end: it is answered, and the next begins.
+fn ended(
+    left: &mut [u16],
+    right: &mut [u16],
+    colour: &mut [u8],
+    line: &[u8],
+    out: &mut [u8],
+    g: Run,
+) -> Run
+    ensures { going result left.new right.new colour.new line.now out.new
+        ≡ ended (going g left.old right.old colour.old line.now out.old) }
+{
+    let told = later_of(left, right, colour, g.rec, line, g.at);
+    let rec = told.rec;
+    Run {
+        rec,
+        at: 0,
+        used: text::say(out, g.used, told.code, told.node),
+    }
+}
+
+// The bytes from position i on up to a newline, and with it the line's answer; or all that are
+// left.
+fn next_line(
+    left: &mut [u16],
+    right: &mut [u16],
+    colour: &mut [u8],
+    line: &mut [u8],
+    out: &mut [u8],
+    g: Run,
+    input: &[u8],
+    i: usize,
+) -> Fed
+    requires { i < length input.now }
+    ensures { fed result left.new right.new colour.new line.new out.new
+        ≡ next_line input.now i (going g left.old right.old colour.old line.old
+        out.old) }
+{
+    let end = session::newline_from(input, i);
+    let at = text::put_all(line, g.at, &input[i..end]);
+    let run = Run { at, ..g };
+    if end < input.len() {
+        let run = ended(left, right, colour, line, out, run);
+        return Fed { next: end + 1, run };
+    }
+    Fed { next: end, run }
+}
+
+// Bytes of the input from position i on, a line at a time.
+fn feed(
+    left: &mut [u16],
+    right: &mut [u16],
+    colour: &mut [u8],
+    line: &mut [u8],
+    out: &mut [u8],
+    g: Run,
+    input: &[u8],
+    i: usize,
+) -> Run
+    ensures { going result left.new right.new colour.new line.new out.new
+        ≡ fold next_byte (drop i input.now)
+        (going g left.old right.old colour.old line.old out.old) }
+{
+    let mut run = g;
+    let mut next = i;
+    while next < input.len() {
+        let fed = next_line(left, right, colour, line, out, run, input, next);
+        run = fed.run;
+        next = fed.next;
+    }
+    run
+}
+
+// The same where the table is in the first m entries of the buffers, which are lent in part.
+pub fn serve(b: &mut Buffers<'_>, g: Run, m: usize, input: &[u8], i: usize) -> Session
+    ensures same { SameSlices b.old b.new }
+    ensures stands { stand_in result b.new
+        ≡ fold eats (drop i input.now) (standing_in (Stage.Serving m) g b.old) }
+{
+    let left = &mut *b.left;
+    let right = &mut *b.right;
+    let colour = &mut *b.colour;
+    let line = &mut *b.line;
+    let out = &mut *b.out;
+    let l = m.min(left.len());
+    let r = m.min(right.len());
+    let c = m.min(colour.len());
+    let run = feed(
+        &mut left[..l],
+        &mut right[..r],
+        &mut colour[..c],
+        line,
+        out,
+        g,
+        input,
+        i,
+    );
+    Session {
+        stage: Stage::Serving(m),
+        run,
+    }
+}
 
 // The first line that the first n bytes of a buffer are.
 fn first_of(left: &mut [u16], right: &mut [u16], colour: &mut [u8], line: &[u8], n: usize) -> Told
@@ -20,49 +152,6 @@ fn first_of(left: &mut [u16], right: &mut [u16], colour: &mut [u8], line: &[u8],
 {
     let end = n.min(line.len());
     lines::first(left, right, colour, &line[..end])
-}
-
-// The later line that the first n bytes of a buffer are, of a table in the first m entries.
-fn later_of(
-    left: &mut [u16],
-    right: &mut [u16],
-    colour: &mut [u8],
-    x: Record,
-    m: usize,
-    line: &[u8],
-    n: usize,
-) -> Told
-    ensures { Replaces m (later (read (take n line.now))) (given left.old right.old colour.old x)
-        result.code result.node (state left.new right.new colour.new result.rec) }
-{
-    let a = m.min(left.len());
-    let b = m.min(right.len());
-    let c = m.min(colour.len());
-    let end = n.min(line.len());
-    lines::later(
-        &mut left[..a],
-        &mut right[..b],
-        &mut colour[..c],
-        x,
-        &line[..end],
-    )
-}
-
-// The line at hand is at its end where a table of m entries is served: it is answered, and the next
-// begins.
-pub fn ended(b: &mut Buffers<'_>, g: Run, m: usize) -> Session
-    ensures same { SameSlices b.old b.new }
-    ensures stands { stand_in result b.new
-        ≡ line_ended (Stage.Serving m) (standing_in (Stage.Serving m) g b.old) }
-{
-    let line = &mut *b.line;
-    let told = later_of(b.left, b.right, b.colour, g.rec, m, line, g.at);
-    let used = text::say(b.out, g.used, told.code, told.node);
-    let rec = told.rec;
-    Session {
-        stage: Stage::Serving(m),
-        run: Run { rec, at: 0, used },
-    }
 }
 
 // The first line is at its end: it is answered, and begins a table unless it is refused.

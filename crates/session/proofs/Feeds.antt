@@ -6,45 +6,20 @@ use mathlib.Core.List.{List, [], ◌∷◌}
 use native.Mathlib.Omega.{arith}
 use native.Mathlib.Nat.{sub_self}
 use native.Mathlib.Numerals.{add-one}
-use native.Mathlib.Nat.{add-zero}
 use lib.ListN.{length, get_or, take, drop, drop_of_length-le, length-drop}
 use lib.Seq.{drop-cons, drop-drop, get_or-drop}
-use lib.Dec.{eqb, ltb}
-use borrow.Author.Tests.{eqb-true, ltb-false}
-use Rattle.std.specs.Prelude.{Some, None, position, cond}
-use Rattle.std.specs.List.{position_or_len}
+use lib.Dec.{eqb}
+use borrow.Author.Tests.{eqb-true}
 use Rattle.base.specs.Choice.{pick}
 use Rattle.base.proofs.Tests.{split}
 use Rattle.text.specs.Answers.{put_all}
 use Rattle.session.specs.Feeding.{newline, fold, Going, gathered, newline_from}
 
-abbrev is_newline : ℕ → Bool
-is_newline b = eqb b 10
-
--- the definition counts the bytes before a newline
-counts : (input : List ℕ) (i : ℕ) → i + position_or_len is_newline input ≡ newline_from input i
-unfolding newline_from pick
-counts [] i = add-zero i
-counts (b ∷ input) i = go (eqb b newline) refl (counts input (i + 1))
-  where
-    go : (t : Bool) → eqb b newline ≡ t
-        → i + 1 + position_or_len is_newline input ≡ newline_from input (i + 1)
-        → i + position_or_len is_newline (b ∷ input) ≡ newline_from (b ∷ input) i
-    go true e k = rw e (add-zero i)
-    go false e k = rw e (omega arith)
-
-pub newline_some : (input : List ℕ) (i n : ℕ) → position is_newline (drop i input) ≡ Some n
-    → i + n ≡ newline_from (drop i input) i
-newline_some input i n e =
-    go (ltb (position_or_len is_newline (drop i input)) (length (drop i input))) refl e
-  where
-    go : (t : Bool)
-        → ltb (position_or_len is_newline (drop i input)) (length (drop i input)) ≡ t
-        → cond t (Some (position_or_len is_newline (drop i input))) None ≡ Some n
-        → i + n ≡ newline_from (drop i input) i
-    go true p q = let h : position_or_len is_newline (drop i input) ≡ n = cc in
-        rw (← h) (counts (drop i input) i)
-    go false p q = absurd cc
+pub newline_turn : (input : List ℕ) (i : ℕ) → i < length input
+    → newline_from (drop i input) i ≡ pick (eqb (get_or input i 0) 10) i
+    (newline_from (drop (i + 1) input) (i + 1))
+unfolding newline_from
+newline_turn input i h = rw (drop-cons input i 0 h, add-one i)
 
 pub newline_none : (input : List ℕ) (i : ℕ) → length input ≤ i → i ≡ newline_from (drop i input) i
 unfolding newline_from
@@ -61,24 +36,6 @@ unfolding newline_from
 within [] i = omega arith
 within (b ∷ input) i = split (λ (n : ℕ). n ≤ i + suc (length input)) _ _ _ (λ _. omega arith)
     (λ _. let h = within input (i + 1) in omega arith)
-
-pub newline_past : (input : List ℕ) (i : ℕ) → position is_newline (drop i input) ≡ None
-    → i ≤ length input → length input ≡ newline_from (drop i input) i
-newline_past input i e l =
-    go (ltb (position_or_len is_newline (drop i input)) (length (drop i input))) refl e
-  where
-    go : (t : Bool)
-        → ltb (position_or_len is_newline (drop i input)) (length (drop i input)) ≡ t
-        → cond t (Some (position_or_len is_newline (drop i input))) None ≡ None
-        → length input ≡ newline_from (drop i input) i
-    go true p q = absurd cc
-    go false p q = omega (
-      arith,
-      counts (drop i input) i,
-      within (drop i input) i,
-      length-drop i input,
-      ltb-false (position_or_len is_newline (drop i input)) (length (drop i input)) p,
-    )
 
 -- e is what `newline_from` found
 pub found : (input : List ℕ) (i e : ℕ) → e ≡ newline_from (drop i input) i → i < length input

@@ -22,7 +22,7 @@ use Rattle.session.specs.declared.Run.{Run}
 use Rattle.session.specs.declared.Stage.{Stage}
 use Rattle.session.specs.declared.Stage.TheVariants.{Opening, Second, Loading, Serving}
 use Rattle.session.specs.declared.Stage.TheVariants.{Over, Stopped}
-use Rattle.session.proofs.Feeds.{to_end, found, newline_at}
+use Rattle.session.proofs.Feeds.{to_end, found}
 use Rattle.session.proofs.Stands.{over}
 use Rattle.transcript.specs.Leads.{Leads}
 
@@ -50,41 +50,6 @@ unfolding eaten
 newline_eaten s b z q =
     pick_no _ _ _ _ (sym q) (pick_yes _ _ _ _ (eq_yes b newline z) refl)
 
--- what ends the line at hand, by the stage
-module _ (g : Run) (l k c ls rs line out : List ℕ) where
-  abbrev at : Stage → Stand
-  at st = standing st g l k c ls rs line out
-
-  pub ends_export : (m : ℕ) → true ≡ is_export (take g.at line) → (t : Stand)
-      → t ≡ noting m 0 (entry (take g.at line) 0) (at (Serving m))
-      → t ≡ line_ended (Second m) (at (Second m))
-  unfolding line_ended standing pick
-  ends_export m q t e =
-      rw (← q) (e ∙ same_noting m 0 _ (Serving m) (Second m) (at (Serving m)))
-
-  pub ends_step : (m : ℕ) → false ≡ is_export (take g.at line) → (t : Stand)
-      → t ≡ line_ended (Serving m) (at (Serving m)) → t ≡ line_ended (Second m) (at (Second m))
-  unfolding line_ended standing pick
-  ends_step m q t e = rw (← q) e
-
-  pub ends_entry : (m n : ℕ) → (t : Stand)
-      → t ≡ noting m n (entry (take g.at line) n) (at (Serving m))
-      → t ≡ line_ended (Loading m n) (at (Loading m n))
-  unfolding line_ended standing
-  ends_entry m n t e = e ∙ same_noting m n _ (Serving m) (Loading m n) (at (Serving m))
-
-  pub ends_first : (t : Stand) → t ≡ begun (at Opening) → t ≡ line_ended Opening (at Opening)
-  unfolding line_ended
-  ends_first t e = e
-
-  pub ends_over : at Over ≡ line_ended Over (at Over)
-  unfolding line_ended
-  ends_over = refl
-
-  pub ends_stopped : (m : ℕ) → at (Stopped m) ≡ line_ended (Stopped m) (at (Stopped m))
-  unfolding line_ended
-  ends_stopped m = refl
-
 -- a newline stands at position i
 module _ (i : ℕ) (input : List ℕ) (h : i < length input) (z : get_or input i 0 ≡ 10) where
   at_newline : (s : Stand) → is_over s.stage ≡ false → fold eats (drop i input) s
@@ -94,6 +59,62 @@ module _ (i : ℕ) (input : List ℕ) (h : i < length input) (z : get_or input i
       ap (λ (w : List ℕ). fold eats w s) (drop-cons input i 0 h)
       ∙ ap (fold eats (drop (suc i) input)) (sym (newline_eaten s (get_or input i 0) z q))
       ∙ ap (λ (j : ℕ). fold eats (drop j input) (line_ended s.stage s)) (sym (add-one i))
+
+  module _ (g : Run) (l k c ls rs line out : List ℕ) (t : Stand) where
+    abbrev at : Stage → Stand
+    at st = standing st g l k c ls rs line out
+
+    -- a line is at its end, where the run is not over
+    leads_ended : (st : Stage) → is_over st ≡ false → t ≡ line_ended st (at st)
+        → Leads i (i + 1) input (at st) t
+    unfolding standing
+    leads_ended st q e = record {
+      gains = omega arith;
+      same =
+          at_newline (standing st g l k c ls rs line out) q
+          ∙ ap (fold eats (drop (i + 1) input)) (sym e);
+    }
+
+    -- the first line
+    pub leads_first : t ≡ begun (at Opening) → Leads i (i + 1) input (at Opening) t
+    unfolding line_ended
+    leads_first e = leads_ended Opening refl e
+
+    -- the first line of an export
+    pub leads_export : (m : ℕ) → true ≡ is_export (take g.at line)
+        → t ≡ noting m 0 (entry (take g.at line) 0) (at (Serving m))
+        → Leads i (i + 1) input (at (Second m)) t
+    unfolding line_ended standing pick
+    leads_export m q e =
+        leads_ended (Second m) refl
+        (rw (← q) (e ∙ same_noting m 0 _ (Serving m) (Second m) (at (Serving m))))
+
+    -- line n of an export
+    pub leads_entry : (m n : ℕ)
+        → t ≡ noting m n (entry (take g.at line) n) (at (Serving m))
+        → Leads i (i + 1) input (at (Loading m n)) t
+    unfolding line_ended standing
+    leads_entry m n e =
+        leads_ended (Loading m n) refl
+        (e ∙ same_noting m n _ (Serving m) (Loading m n) (at (Serving m)))
+
+    -- steps: the table is served from here on
+    pub leads_served : (m : ℕ) → t ≡ fold eats (drop i input) (at (Serving m))
+        → Leads i (length input) input (at (Serving m)) t
+    leads_served m e = leads_all i input (at (Serving m)) t h e
+
+    -- the first step
+    pub leads_step : (m : ℕ) → false ≡ is_export (take g.at line)
+        → t ≡ fold eats (drop i input) (at (Serving m))
+        → Leads i (length input) input (at (Second m)) t
+    unfolding line_ended standing pick
+    leads_step m q e =
+        let same : line_ended (Serving m) (standing (Serving m) g l k c ls rs line out)
+        ≡ line_ended (Second m) (standing (Second m) g l k c ls rs line out) = rw (← q) in
+        leads_all i input _ t h
+        (e ∙ at_newline (standing (Serving m) g l k c ls rs line out) refl
+        ∙ ap (fold eats (drop (i + 1) input)) same
+        ∙ sym (at_newline (standing (Second m) g l k c ls rs line out) refl))
 
 -- the run is over
 pub leads_over : (i : ℕ) (input : List ℕ) (st : Stage) (g : Run) (l k c ls rs line out : List ℕ)
@@ -133,19 +154,14 @@ module _ (i e : ℕ) (input : List ℕ) (st : Stage) (g : Run) (used : ℕ)
   goes =
       line_eaten i e input (standing st g l k c ls rs line out) (written line' used) q (sym z) d
 
-  pub leads_on : e < length input → (t : Stand)
-      → t ≡ line_ended st (standing st (record { rec = g.rec; at = used; used = g.used }) l k c
-      ls rs line' out)
-      → Leads i (e + 1) input (standing st g l k c ls rs line out) t
-  unfolding lined standing
-  leads_on p t r =
+  pub leads_on : (j : ℕ) (t : Stand)
+      → Leads e j input (standing st (record { rec = g.rec; at = used; used = g.used }) l k c ls
+      rs line' out) t
+      → Leads i j input (standing st g l k c ls rs line out) t
+  unfolding lined
+  leads_on j t r =
       let b = found input i e q h in
-      record {
-        gains = omega arith;
-        same =
-            goes ∙ at_newline e input p (newline_at input i e q h p) lined (sym z)
-            ∙ ap (fold eats (drop (e + 1) input)) (sym r);
-      }
+      record { gains = omega (arith, r.gains); same = goes ∙ r.same }
 
   pub leads_rest : length input ≤ e
       → Leads i e input (standing st g l k c ls rs line out)

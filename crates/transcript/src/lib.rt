@@ -2,8 +2,8 @@
 // block makes of where the run stands is defined in crate session.
 #![tactic(auto)]
 
-ghost use Rattle.std.specs.Prelude.{◌≡◌, List, ℕ, ◌<◌, length};
-ghost use Rattle.session.specs.Feeding.{stand, stand_in, SameSlices, line_ended};
+ghost use Rattle.std.specs.Prelude.{◌≡◌, List, ℕ, ◌<◌, length, get_or};
+ghost use Rattle.session.specs.Feeding.{stand, stand_in, SameSlices};
 ghost use Rattle.session.specs.Feeding.{emptied, block, bare, closed, finish, turn};
 ghost use Rattle.session.specs.Feeding.{is_over, is_stopped, started};
 ghost use Rattle.transcript.specs.Leads.{Leads};
@@ -14,26 +14,40 @@ use session::{Buffers, Run, Session, Stage};
 // The bytes of a line that are kept: one more than a line may have.
 pub const LINE: usize = 81;
 
-// The line at hand is at its end: the line after the first begins an export, or is a step.
-fn end_line(b: &mut Buffers<'_>, s: Session) -> Session
+// The line at hand is at its end, at position i: the line after the first begins an export, or is
+// the first step, and steps are served up to the block's end. The position of the next byte.
+fn end_line(b: &mut Buffers<'_>, s: &mut Session, input: &[u8], i: usize) -> usize
+    requires i_in_bounds { i < length input.now }
+    requires i_value { get_or input.now i 0 ≡ 10 }
     ensures same { SameSlices b.old b.new }
-    ensures stands { stand_in result b.new ≡ line_ended s.stage (stand_in s b.old) }
+    ensures leads { Leads i result input.now (stand_in s.old b.old) (stand_in s.new b.new) }
 {
     let g = s.run;
     match s.stage {
-        Stage::Opening => serving::begin(b, g),
+        Stage::Opening => {
+            *s = serving::begin(b, g);
+            i + 1
+        }
         Stage::Second(m) => {
             let line = &mut *b.line;
             if export::is_export(line, g.at) {
-                export::load_line(b, g, m, 0)
+                *s = export::load_line(b, g, m, 0);
+                i + 1
             } else {
-                serving::ended(b, g, m)
+                *s = serving::serve(b, g, m, input, i);
+                input.len()
             }
         }
-        Stage::Loading(m, n) => export::load_line(b, g, m, n),
-        Stage::Serving(m) => serving::ended(b, g, m),
-        Stage::Over => s,
-        Stage::Stopped(_) => s,
+        Stage::Loading(m, n) => {
+            *s = export::load_line(b, g, m, n);
+            i + 1
+        }
+        Stage::Serving(m) => {
+            *s = serving::serve(b, g, m, input, i);
+            input.len()
+        }
+        Stage::Over => input.len(),
+        Stage::Stopped(_) => input.len(),
     }
 }
 
@@ -51,8 +65,7 @@ fn lead(b: &mut Buffers<'_>, s: &mut Session, input: &[u8], i: usize) -> usize
     let bytes = &input[i..end];
     s.run.at = text::put_all(b.line, s.run.at, bytes);
     if end < input.len() {
-        *s = end_line(b, *s);
-        return end + 1;
+        return end_line(b, s, input, end);
     }
     end
 }

@@ -1,7 +1,10 @@
--- `ended` meets its contract: the line is answered by `later_of`, and its answer is put by `say`.
-use Rattle.serving.proofs.Served.{ended_so}
+-- The line at hand is answered by `later_of`, its answer is put by `say`, and the next line begins
+-- empty: the definition's three parts.
+use Rattle.session.specs.Feeding.{ended}
+use Rattle.serving.specs.Serving.{going}
 use Rattle.serving.proofs.ended.Goals as goal
 
-pub returns-clause-stands : goal.returns-clause-stands
-returns-clause-stands c =
-    ended_so _ _ _ _ _ _ _ _ _ _ _ _ _ _ _ _ _ c.later_of-told.ensures c.say-used.ensures
+pub returns : goal.returns
+unfolding ended going
+returns c =
+    rw (← c.later_of-told.ensures, ← c.say.ensures)

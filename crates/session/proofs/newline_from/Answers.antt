@@ -1,25 +1,26 @@
--- `newline_from` meets its contract: the definition counts the bytes before a newline.
-use native.Mathlib.Omega.{arith}
-use mathlib.Core.Path.{◌≡◌, sym, ◌∙◌}
-use lib.ListN.{length, take, drop, length-drop}
-use lib.Seq.{take_all}
-use Prim.Native.Nat.{◌-◌}
-use Rattle.session.proofs.Feeds.{newline_none, newline_some, newline_past}
+-- Each turn passes one byte that is no newline, so the search from the next position finds the
+-- same.
+use mathlib.Core.Path.{refl, sym, ◌∙◌}
+use Rattle.base.proofs.Tests.{pick_yes, pick_no, eq_yes, eq_no}
+use Rattle.session.proofs.Feeds.{newline_turn, newline_none}
 use Rattle.session.proofs.newline_from.Goals as goal
 
-pub returns-then-i-input : goal.returns-then-i-input
-returns-then-i-input c = newline_none _ _ c.if-i-input.true
+pub loop-at-init : goal.loop-at-init
+loop-at-init c = refl
 
-pub returns-in-Some : goal.returns-in-Some
-returns-in-Some c =
-    let input = c.args.input.now in
-    let all : take (length input - c.args.i) (drop c.args.i input) ≡ drop c.args.i input =
-    take_all _ _ (omega (arith, length-drop c.args.i input)) in
-    newline_some _ _ _ (sym (rw all at c.newline.ensures) ∙ c.in-Some.is)
+pub returns-then-input-at-eq-NEWLINE : goal.returns-then-input-at-eq-NEWLINE
+returns-then-input-at-eq-NEWLINE c =
+    rw (
+      c.loop-at.invariant,
+      newline_turn _ _
+          c.loop-at-test.true,
+    ) (pick_yes _ _ _ _ (eq_yes _ _ c.if-input-at-eq-NEWLINE.true) refl)
 
-pub returns-in-None : goal.returns-in-None
-returns-in-None c =
-    let input = c.args.input.now in
-    let all : take (length input - c.args.i) (drop c.args.i input) ≡ drop c.args.i input =
-    take_all _ _ (omega (arith, length-drop c.args.i input)) in
-    newline_past _ _ (sym (rw all at c.newline.ensures) ∙ c.in-None.is) (omega arith)
+pub loop-at-preserved : goal.loop-at-preserved
+loop-at-preserved c =
+    c.loop-at.invariant
+    ∙ sym (rw (newline_turn _ _ c.loop-at-test.true)
+    (pick_no _ _ _ _ (eq_no _ _ c.if-input-at-eq-NEWLINE.false) refl))
+
+pub returns : goal.returns
+returns c = rw c.loop-at.invariant (newline_none _ _ c.loop-at-test.false)
