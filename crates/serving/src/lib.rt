@@ -22,7 +22,7 @@ pub struct Fed {
     pub run: Run,
 }
 
-// Kept: five slices and a Run go through the loop over the lines of a block. Tried: one `&mut
+// Kept: five slices and a Run go through the loop over the lines of a block; tried: one `&mut
 // Buffers` and a Session, with the table's entries lent for each line, took 17 % more time for
 // 1,000,000 lines (146 ms against 125 ms).
 
