@@ -2,8 +2,8 @@
 // caller keeps.
 #![tactic(auto)]
 
-ghost use Rattle.std.specs.Prelude.{◌≡◌, [], ◌∷◌, ◌+◌, ◌*◌, ◌/◌, ◌<◌, ◌≤◌, length, eqb, true};
-ghost use Rattle.std.specs.Prelude.{IfOk, IfErr};
+ghost use Rattle.std.specs.Prelude.{◌≡◌, [], ◌∷◌, ◌+◌, ◌*◌, ◌/◌, ◌<◌, ◌≤◌, length, eqb, true, false};
+ghost use Rattle.std.specs.Prelude.{IfOk, IfErr, IfSome, IfNone};
 ghost use Rattle.rules.specs.Table.{refused};
 ghost use Rattle.base.specs.Choice.{pick};
 ghost use Rattle.rules.specs.Fresh.{fresh};
@@ -14,7 +14,7 @@ ghost use Rattle.rules.specs.Steps.{step, taking, linking, shading, collecting, 
 ghost use Rattle.rules.specs.Schedules.{ran, schedule, collects};
 ghost use Rattle.rules.specs.Changes.{changes, changes_all};
 ghost use Rattle.freed.specs.Freed.{run_in, changes_in, appended_in, noted};
-ghost use Rattle.record_words.specs.Words.{is_record};
+ghost use Rattle.record_words.specs.Words.{is_record, record_of};
 ghost use Rattle.jenturik_c.specs.Face.{what_of, answered_of, told_of, shown, fitted};
 ghost use Rattle.jenturik_c.specs.Face.{faced, face, face_count};
 ghost use Rattle.jenturik_c.specs.Face.{asking, Narrow};
@@ -35,6 +35,7 @@ const VERSION: u32 = 4007;
 
 // How many words a step of a schedule has, and the number of each, by the names of
 // include/jenturik.h. From UNUSED on they have no use.
+// Kept: numbers of places, the C interface: a schedule is one array of words there.
 const STEP_WORDS: usize = 12;
 
 const KIND: usize = 0;
@@ -60,6 +61,7 @@ const NO_KIND: u32 = 4294967295;
 
 // What a call answers: what was done (0: refused), the code, the detail, the node, and how many
 // colours it changed.
+// Kept: this and the next three are structs of numbers, the C interface (include/jenturik.h).
 #[repr(C)]
 #[derive(Clone, Copy)]
 pub struct Told {
@@ -107,6 +109,7 @@ pub struct Freed {
     pub detail: u8,
 }
 
+// Kept: what was done is a number, JENTURIK_NAMED and so on of include/jenturik.h, the C interface.
 fn what(a: Answer) -> u8
     ensures { result ≡ what_of a }
 {
@@ -156,6 +159,7 @@ fn refused(code: u8) -> Told
 }
 
 // The record that words are, where it passes with slices of these lengths; else code 1 or 2.
+// Kept: the error is a number: the codes are those of the rules (`judged` [C 4]), for C too.
 fn passed(
     left: &[u16],
     right: &[u16],
@@ -171,6 +175,18 @@ fn passed(
     }
 }
 
+// The record that words are, where they are one's.
+fn formed(words: &[u32; record_words::WORDS]) -> Option<Record>
+    ensures some { IfSome result (λ x. (true ≡ is_record words.now) × (x ≡ record_of words.now)) }
+    ensures none { IfNone result (false ≡ is_record words.now) }
+{
+    if record_words::is_record(*words) {
+        Some(record_words::record_of(*words))
+    } else {
+        None
+    }
+}
+
 // The library's version.
 #[unsafe(no_mangle)]
 pub extern "C" fn jenturik_version() -> u32
@@ -178,6 +194,9 @@ pub extern "C" fn jenturik_version() -> u32
 {
     VERSION
 }
+
+// Kept: here and in the calls below the slices, the words and the numbers of a place are parameters
+// of their own, the C interface.
 
 // A fresh table; the words are written whatever they were.
 #[unsafe(no_mangle)]
@@ -269,11 +288,11 @@ pub extern "C" fn jenturik_in_use(
         ≡ face (asking in_use) left.now right.now colour.now words.now }
     ensures changed_value { result.changed ≡ 0 }
 {
-    if !record_words::is_record(*words) {
-        return refused(2);
-    }
-    let answer = in_use::in_use(left, right, colour, record_words::record_of(*words));
-    tell(answer, 0)
+    let x = match formed(words) {
+        Some(x) => x,
+        None => return refused(2),
+    };
+    tell(in_use::in_use(left, right, colour, x), 0)
 }
 
 // How many nodes are free; nothing is written.
@@ -465,6 +484,7 @@ pub extern "C" fn jenturik_collect(
 }
 
 // A code and a detail in one byte.
+// Kept: two numbers in one, the C interface: `code` of jenturik_last has them so.
 fn packed(code: u8, detail: u8) -> u8
     requires code_bound { code < 32 }
     requires detail_bound { detail < 8 }
@@ -482,6 +502,7 @@ fn one_done(code: u16) -> usize
 }
 
 // What one step answers, as the last of many.
+// Kept: the casts narrow by `as`: that each number fits is required (`Narrow` and the two bounds).
 fn last_of(t: Told) -> Last
     requires narrow { Narrow t }
     requires code_bound { t.code < 32 }
@@ -576,23 +597,19 @@ pub extern "C" fn jenturik_collect_freed(
     ensures freed_value { result.freed
         ≡ length (face_nodes (appended_in n list.old) left.old right.old colour.old words.old) }
 {
-    if !record_words::is_record(*words) {
-        return Freed {
-            done: 0,
-            changed: 0,
-            freed: 0,
-            code: 2,
-            detail: 0,
-        };
-    }
-    let all = freed::collect_freed(
-        left,
-        right,
-        colour,
-        record_words::record_of(*words),
-        n,
-        list,
-    );
+    let x = match formed(words) {
+        Some(x) => x,
+        None => {
+            return Freed {
+                done: 0,
+                changed: 0,
+                freed: 0,
+                code: 2,
+                detail: 0,
+            };
+        }
+    };
+    let all = freed::collect_freed(left, right, colour, x, n, list);
     *words = record_words::words_of(all.rec);
     Freed {
         done: all.done,
@@ -708,15 +725,18 @@ pub extern "C" fn jenturik_schedule(
         ≡ face_count (λ s. fitted (changes_of steps.now s)) left.old right.old colour.old
         words.old }
 {
-    if !record_words::is_record(*words) {
-        return Done {
-            done: 0,
-            code: 2,
-            detail: 0,
-            changed: 0,
-        };
-    }
-    let ran = schedule_of(steps, left, right, colour, record_words::record_of(*words));
+    let x = match formed(words) {
+        Some(x) => x,
+        None => {
+            return Done {
+                done: 0,
+                code: 2,
+                detail: 0,
+                changed: 0,
+            };
+        }
+    };
+    let ran = schedule_of(steps, left, right, colour, x);
     record_words::put(words, ran.rec);
     Done {
         done: ran.done,

@@ -16,6 +16,7 @@ use session::{Run, Session, Stage};
 
 // How many words there are, and the number of each behind the record's, by the names of
 // include/jenturik_text.h.
+// Kept: numbers of places in one array, the C interface: a caller in C keeps the session as words.
 pub const WORDS: usize = 32;
 
 const STAGE: usize = 24;
@@ -30,6 +31,7 @@ const UNUSED: usize = 28;
 
 // What a block answers: how many bytes of the output are printed, the code, and whether the run is
 // over: 0 it goes on, 1 the first line was refused, 2 the export was.
+// Kept: a struct of numbers, the C interface (include/jenturik_text.h).
 #[repr(C)]
 #[derive(Clone, Copy)]
 pub struct Turned {
@@ -39,6 +41,7 @@ pub struct Turned {
     pub zero: u32,
 }
 
+// Kept: a stage is a number among the words, the C interface; `stage_of` reads it back.
 fn tag(stage: Stage) -> u32
     ensures { result ≡ tag_of stage }
 {
@@ -161,6 +164,7 @@ fn session_of(w: [u32; WORDS]) -> Session
 
 // The session that words are, for a line's buffer of n bytes; else the code of a block that is
 // refused: the words are no session's, or the buffer has another length.
+// Kept: the error is a number: the codes are those of the rules (`judged` [Text 4]), for C too.
 fn passed(n: usize, w: [u32; WORDS]) -> Result<Session, u16>
     ensures ok { IfOk result (λ s. (s ≡ session_of w) × (0 ≡ judged n w)) }
     ensures err { IfErr result (λ code. (code ≡ judged n w) × (code ≡ 0 → ⊥)) }

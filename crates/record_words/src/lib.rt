@@ -15,6 +15,7 @@ ghost use Rattle.rules.specs.Check.{position_ok, second_ok, last_ok, free_ok, co
 use rules::{Phase, Record};
 
 // How many words there are, and the number of each, by the names of include/jenturik.h.
+// Kept: numbers of places in one array, the C interface: a caller in C keeps the record as words.
 pub const WORDS: usize = 24;
 
 const NODES: usize = 0;
@@ -149,6 +150,7 @@ pub fn put_step(words: &mut [u32; WORDS], x: Record)
 }
 
 // All bits of the words of 16 bits.
+// Kept: each word is named, since these do not stand side by side: no slice has just them.
 fn narrow(w: &[u32; WORDS]) -> u32
     ensures { result ≡ narrow w.now }
 {
@@ -259,6 +261,7 @@ fn record_ok(w: [u32; WORDS]) -> bool
 }
 
 // Codes 1 and 2 of words, for slices of these lengths; 0 where neither is given. No record is made.
+// Kept: a number and no Result: the codes are numbers of the rules, and `judged` [C 4] is the clause.
 pub fn judge(lefts: usize, rights: usize, colours: usize, w: [u32; WORDS]) -> u8
     ensures { result ≡ judged (lefts ∷ rights ∷ []) colours w }
 {
@@ -281,6 +284,8 @@ fn shade_of(owes: u32, n: u16) -> Option<u16>
     if owes == 0 { None } else { Some(n) }
 }
 
+// Kept: the casts narrow by `as`: that each word fits is what `Within` says, so `try_from` would
+// answer an error that cannot come.
 fn picked_up(w: [u32; WORDS], phase: Phase, owed: Option<u16>) -> Record
     requires { Within w WORDS }
     ensures { result ≡ picked_up w phase owed }
