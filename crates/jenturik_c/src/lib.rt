@@ -2,8 +2,8 @@
 // caller keeps.
 #![tactic(auto)]
 
-ghost use Rattle.std.specs.Prelude.{◌≡◌, [], ◌∷◌, ◌+◌, ◌*◌, ◌/◌, ◌<◌, ◌≤◌, length, eqb, true, false};
-ghost use Rattle.std.specs.Prelude.{IfOk, IfErr, IfSome, IfNone};
+ghost use Rattle.std.specs.Prelude.{◌≡◌, [], ◌∷◌, ◌+◌, ◌*◌, ◌/◌, ◌<◌, ◌≤◌, length, eqb, true};
+ghost use Rattle.std.specs.Prelude.{false, IfOk, IfErr, IfSome, IfNone};
 ghost use Rattle.rules.specs.Table.{refused};
 ghost use Rattle.base.specs.Choice.{pick};
 ghost use Rattle.rules.specs.Fresh.{fresh};
@@ -537,8 +537,8 @@ pub extern "C" fn jenturik_collect_many(
     words: &mut [u32; record_words::WORDS],
     n: usize,
 ) -> Last
-    ensures words_value { faced_run result.done (code_in result.code) (detail_in result.code) left.new
-        right.new colour.new words.new
+    ensures words_value { faced_run result.done (code_in result.code) (detail_in result.code)
+        left.new right.new colour.new words.new
         ≡ face_run (schedule (collects n)) left.old right.old colour.old words.old }
     ensures result_value { last_of result ≡ last_told n left.old right.old colour.old words.old }
     ensures stays { Stays words.old words.new }
@@ -584,8 +584,8 @@ pub extern "C" fn jenturik_collect_freed(
     n: usize,
     list: &mut [u16],
 ) -> Freed
-    ensures words_value { faced_run result.done result.code result.detail left.new right.new colour.new
-        words.new
+    ensures words_value { faced_run result.done result.code result.detail left.new right.new
+        colour.new words.new
         ≡ face_run (run_in n list.old) left.old right.old colour.old words.old }
     ensures stays { Stays words.old words.new }
     ensures changed_value { result.changed
@@ -717,8 +717,8 @@ pub extern "C" fn jenturik_schedule(
     words: &mut [u32; record_words::WORDS],
     steps: &[u32],
 ) -> Done
-    ensures words_value { faced_run result.done result.code result.detail left.new right.new colour.new
-        words.new
+    ensures words_value { faced_run result.done result.code result.detail left.new right.new
+        colour.new words.new
         ≡ face_run (schedule_of steps.now) left.old right.old colour.old words.old }
     ensures stays { Stays words.old words.new }
     ensures changed_value { result.changed

@@ -261,7 +261,7 @@ fn record_ok(w: [u32; WORDS]) -> bool
 }
 
 // Codes 1 and 2 of words, for slices of these lengths; 0 where neither is given. No record is made.
-// Kept: a number and no Result: the codes are numbers of the rules, and `judged` [C 4] is the clause.
+// Kept: a number and no Result: the codes are the rules' numbers, and the clause is `judged` [C 4].
 pub fn judge(lefts: usize, rights: usize, colours: usize, w: [u32; WORDS]) -> u8
     ensures { result ≡ judged (lefts ∷ rights ∷ []) colours w }
 {

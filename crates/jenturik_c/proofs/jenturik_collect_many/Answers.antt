@@ -1,5 +1,5 @@
--- Words that do not pass refuse the call. If n is 1, what one step tells is what many tell. Else the
--- batch is made over the record that the words are: its facts are the face's, and the record's
+-- Words that do not pass refuse the call. If n is 1, what one step tells is what many tell. Else
+-- the batch is made over the record that the words are: its facts are the face's, and the record's
 -- words are written back.
 use mathlib.Core.Path.{ap, ◌∙◌}
 use native.Mathlib.Omega.{arith}

@@ -1,5 +1,5 @@
--- Words that do not pass are answered by `refused`. Else the block is answered over the session that
--- the words are, and what it leaves has its widths.
+-- Words that do not pass are answered by `refused`. Else the block is answered over the session
+-- that the words are, and what it leaves has its widths.
 use mathlib.Core.Path.{refl}
 use Rattle.jenturik_text.proofs.Turns.{spurns, fits_after, turns_so}
 use Rattle.jenturik_text.proofs.jenturik_turn.Goals as goal

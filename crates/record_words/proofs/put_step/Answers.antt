@@ -11,7 +11,8 @@ returns c =
     let x = c.args.x in
     let r = c.requires in
     let both = words_are x _
-    (c.put_moved.ensures.words_value ∙ step_stored _ r.true_value x r.m_value r.r_value r.owed_value)
+    (c.put_moved.ensures.words_value
+    ∙ step_stored _ r.true_value x r.m_value r.r_value r.owed_value)
     (omega (
       arith,
       tag_most x.phase,
