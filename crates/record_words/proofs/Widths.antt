@@ -81,8 +81,8 @@ all_pass w f e =
     let o = leb-true (word w OWES) 1 t.1.0 in
     let n = each_below 16 (word w NODES) (narrows w) (below 65535 _ (leb-true _ _ t.1.1.0)) in
     let s = each_below 0 (word w USED) (spares w) (omega (arith, eqb-true _ _ t.1.1.1.0)) in
-    let large = 4294967295 in
-    let l : (word w STEPS ≤ large) × (word w CYCLES ≤ large) × (word w TOOK ≤ large) =
+    let l : (word w STEPS ≤ 4294967295) × (word w CYCLES ≤ 4294967295)
+    × (word w TOOK ≤ 4294967295) =
     (omega (arith, f STEPS), omega (arith, f CYCLES), omega (arith, f TOOK)) in
     let a : Within w 6 = search (at_most, p, o, n) depth 30 in
     let b : Within w 14 = search (at_most, a, n, l) depth 30 in
