@@ -22,23 +22,6 @@ appending-s-requires c =
     c.requires.phase_value c.requires.passes c.requires.room (omega arith) (omega arith)
     (omega arith))
 
-pub overflow_sub-result : goal.overflow_sub-result
-overflow_sub-result c =
-    c.appending-s.ensures.1.low
-
-pub overflow_add-result : goal.overflow_add-result
-overflow_add-result c =
-    let f = at_append _ _ _ _ _ c.requires.passes c.requires.phase_value in
-    let g = at _ _ _ _ _ c.appending-s.ensures.1.leads.passes in omega arith
-
-pub overflow_add-result-2 : goal.overflow_add-result-2
-overflow_add-result-2 c =
-    let g = at _ _ _ _ _ c.appending-s.ensures.1.leads.passes in omega arith
-
-pub overflow_sub-result-2 : goal.overflow_sub-result-2
-overflow_sub-result-2 c =
-    c.appending-s.ensures.1.few
-
 pub swept-requires : goal.swept-requires
 swept-requires c =
     let g = at _ _ _ _ _ c.appending-s.ensures.1.leads.passes in

@@ -8,9 +8,6 @@ use Rattle.skim.proofs.all_stops.Goals as goal
 pub loop-colours-init : goal.loop-colours-init
 loop-colours-init c = (omega arith, sym (stops_none _ _))
 
-pub overflow_add-found : goal.overflow_add-found
-overflow_add-found c = omega arith
-
 pub loop-colours-preserved : goal.loop-colours-preserved
 loop-colours-preserved c =
     let made = c.as_chunks.ensures in
