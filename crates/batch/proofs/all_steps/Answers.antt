@@ -3,27 +3,10 @@
 -- refused or leaves a count past its limit, after which a step is refused with code 2.
 use mathlib.Core.Path.{sym, ◌∙◌}
 use native.Mathlib.Omega.{arith}
-use native.Mathlib.Nat.{sub-zero}
 use Rattle.batch.proofs.StrideAndStep.{refused_end, gone_on, spoilt_end, none_left}
 use Rattle.batch.proofs.StrideAndStep.{refused_summed, on_summed, spoilt_summed}
 use Rattle.batch.proofs.StrideAndStep.{none_summed, sizes_still}
 use Rattle.batch.proofs.all_steps.Goals as goal
-
-pub loop-done-init : goal.loop-done-init
-loop-done-init c = record {
-  made = omega arith;
-  passes = c.requires.passes;
-  limit = c.requires.b_value;
-  rest = rw sub-zero;
-  few = omega arith;
-  sum = rw sub-zero (omega arith);
-}
-
-pub stride_and_step-gone-requires : goal.stride_and_step-gone-requires
-stride_and_step-gone-requires c = record {
-  passes = c.loop-done.invariant.passes;
-  b_value = c.loop-done.invariant.limit;
-}
 
 pub in_limits-requires : goal.in_limits-requires
 in_limits-requires c =
@@ -31,10 +14,6 @@ in_limits-requires c =
       r_le_most_slots = (sizes_still _ _ _ _ _ _ c.loop-done.invariant.passes gone.m gone.r).0;
       r_bound = (sizes_still _ _ _ _ _ _ c.loop-done.invariant.passes gone.m gone.r).1;
     }
-
-pub loop-done-smaller : goal.loop-done-smaller
-loop-done-smaller c =
-    omega (arith, c.loop-done-test.true, c.stride_and_step-gone.ensures.0)
 
 pub loop-done-preserved : goal.loop-done-preserved
 loop-done-preserved c =

@@ -16,11 +16,10 @@ overflow_sub-near-2 c = let h =
     steps_in _ _ _ _ _ c.requires.passes
     c.requires.b_value in omega arith
 
-pub stride-l-requires : goal.stride-l-requires
-stride-l-requires c =
-    let h =
-    steps_in _ _ _ _ _ c.requires.passes c.requires.b_value in
-    record { passes = c.requires.passes; room = room _ _ _ c.requires.b_value (omega arith) }
+pub stride-l-requires-clause-room : goal.stride-l-requires-clause-room
+stride-l-requires-clause-room c =
+    let h = steps_in _ _ _ _ _ c.requires.passes c.requires.b_value in
+    room _ _ _ c.requires.b_value (omega arith)
 
 pub phase_step-made-requires : goal.phase_step-made-requires
 phase_step-made-requires c = record {
