@@ -6,7 +6,8 @@ use Rattle.scanning.proofs.Marker.follow_left.Given as goal
 
 abbrev pub invariant-loop-q : goal.invariant-loop-q
 invariant-loop-q l =
-    Follows l.self.left.now l.self.right.now l.initial.colour l.self.x l.self.cap l.fn.s l.colour l.q
+    Follows l.self.left.now l.self.right.now l.initial.colour l.self.x l.self.cap l.fn.s
+    l.colour l.q
 
 abbrev pub decreases-loop-q : goal.decreases-loop-q
 decreases-loop-q l = l.m - l.q.blackened
