@@ -14,7 +14,8 @@ use Rattle.std.specs.Cmp.Lexicographic.{pointwise}
 use Rattle.std.specs.Prelude.{Option, Some, None, MatchOption, option_copied}
 use Rattle.base.specs.Choice.{pick, every}
 use Rattle.base.proofs.Tests.{pick_yes, pick_no, facts, each}
-use Rattle.text.specs.Grammar.{after, is_digit, digits_at, side_at, letters_at, turns, many_words, longest}
+use Rattle.text.specs.Grammar.{after, is_digit, digits_at, side_at, letters_at, turns}
+use Rattle.text.specs.Grammar.{many_words, longest}
 use Rattle.text.specs.Grammar.{whole, or_else}
 use Rattle.text.specs.declared.Said.{Said}
 

@@ -9,7 +9,8 @@ use borrow.Author.Tests.{lt-ltb, le-ltb, leb-true, leb-false}
 use lib.Dec.{leb}
 use borrow.Rule.Slice.PartMut.{put_mid, Post-is}
 use Rattle.std.proofs.lemmas.List.Edits.{sets-eq, sets}
-use lib.ListN.{length, get_or, take, drop, set, drop_of_length-le, length-append, length-set, take-append-drop}
+use lib.ListN.{length, take, drop, set, drop_of_length-le}
+use lib.ListN.{length-append, length-set, take-append-drop}
 use lib.Seq.{length-take-le, take-suc-set, append_snoc}
 use Rattle.base.specs.Choice.{pick}
 use Rattle.base.proofs.Tests.{split}

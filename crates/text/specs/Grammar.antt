@@ -1,8 +1,9 @@
 -- A line of a schedule: its bytes to what it says. The section Program of docs/RULES.md. Each piece
--- reads the bytes of a line from its first on, and gives what it says with the bytes that follow, or
--- nothing where the piece does not stand there.
+-- is read from the first of the bytes on, and gives what it says with the bytes that follow: none
+-- where it does not stand there.
 use Rattle.base.specs.Choice.{pick, every}
-use Rattle.std.specs.Prelude.{ℕ, zero, suc, ◌+◌, ◌-◌, ◌*◌, ◌%◌, Bool, List, [], ◌∷◌, length, ltb, leb, eqb, Option, Some, None, is_some, option_map}
+use Rattle.std.specs.Prelude.{ℕ, zero, suc, ◌+◌, ◌-◌, ◌*◌, ◌%◌, Bool, List, [], ◌∷◌, length, ltb}
+use Rattle.std.specs.Prelude.{leb, eqb, Option, Some, None, is_some, option_map}
 use Rattle.std.specs.Option.{option_map_or}
 use denote.Ref.{Bor}
 use Rattle.rules.specs.declared.Place.{Place}

@@ -313,8 +313,7 @@ pub fn entry(line: &[u8], n: usize) -> Option<Edges>
     }
 }
 
-// Kept: the output is lent by the C interface (`jenturik_turn`) with a fixed length, and how much of
-// it is used goes by value with the run, so `put`, `put_all` and `say` take and answer that number.
+// Kept: C lends the output with a fixed length (`jenturik_turn`); what is used goes by value.
 
 // One byte more of the output, where there is room; answers how much is used.
 pub fn put(out: &mut [u8], used: usize, b: u8) -> usize

@@ -4,16 +4,18 @@ use borrow.Author.Rules.{rules}
 use Rattle.base.proofs.Tests.{tests, pick_yes, pick_no, every_skip, every_last, le_yes}
 use Rattle.lines.specs.Lines.{opened}
 use Rattle.lines.proofs.begin.Goals as goal
-use Rattle.lines.proofs.begin.Goals.{then-left-nodes-via-then-left-nodes, then-left-nodes-via-else-left-nodes+then-right-nodes, then-left-nodes-via-else-left-nodes+else-right-nodes+then-colour-nodes}
+use Rattle.lines.proofs.begin.Goals.{then-left-nodes-via-then-left-nodes as no_left}
+use Rattle.lines.proofs.begin.Goals.{then-left-nodes-via-else-left-nodes+then-right-nodes as no_right}
+use Rattle.lines.proofs.begin.Goals.{then-left-nodes-via-else-left-nodes+else-right-nodes+then-colour-nodes as no_colour}
 
 pub returns-then-left-nodes : goal.returns-then-left-nodes
 unfolding opened
 returns-then-left-nodes c =
     pick_no _ _ _ _
     (elim c.then-left-nodes.branch [
-      | then-left-nodes-via-then-left-nodes w ↦ search (tests, rules) depth 12
-      | then-left-nodes-via-else-left-nodes+then-right-nodes w ↦ search (tests, rules) depth 12
-      | then-left-nodes-via-else-left-nodes+else-right-nodes+then-colour-nodes w ↦ search (tests, rules) depth 12
+      | no_left w ↦ search (tests, rules) depth 12
+      | no_right w ↦ search (tests, rules) depth 12
+      | no_colour w ↦ search (tests, rules) depth 12
     ]) (c.refused.ensures _ _ _)
 
 pub returns : goal.returns

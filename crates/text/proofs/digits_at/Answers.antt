@@ -2,7 +2,8 @@
 -- a power of ten, so it fits.
 use mathlib.Core.Path.{◌∙◌}
 use native.Mathlib.Omega.{arith}
-use Rattle.text.proofs.Lines.{no_bytes, a_digit, no_digit, digit_is, small, longer, digits_out, digits_stop}
+use Rattle.text.proofs.Lines.{no_bytes, a_digit, no_digit, digit_is, small}
+use Rattle.text.proofs.Lines.{longer, digits_out, digits_stop}
 use Rattle.text.proofs.Lines.{digits_next, digits_done}
 use Rattle.text.proofs.digits_at.Goals as goal
 

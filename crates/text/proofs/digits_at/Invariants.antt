@@ -1,6 +1,6 @@
 -- Each turn reads one digit as the definition does, with one fewer to come; the number stays below
 -- a power of ten, so it fits.
-use Prim.Native.Nat.{◌-◌, ◌≤◌, ◌<◌, ◌^◌}
+use Prim.Native.Nat.{◌-◌, ◌<◌, ◌^◌}
 use mathlib.Core.Path.{◌≡◌}
 use Rattle.text.specs.Grammar.{digits_at}
 use Rattle.text.proofs.digits_at.Given as goal

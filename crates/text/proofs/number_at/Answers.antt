@@ -14,18 +14,20 @@ returns-in_err-b c = rw (c.from_residual.ensures, no_bytes _ c.in_err-b.ensures.
 pub returns-then-not-is_ascii_digit : goal.returns-then-not-is_ascii_digit
 unfolding number_at
 returns-then-not-is_ascii_digit c =
-    rw c.in_ok-b.ensures.cases.0
-    (pick_no _ _ _ _ (no_digit _ _ c.is_ascii_digit.ensures.value c.if-not-is_ascii_digit.true) refl)
+    let d = no_digit _ _ c.is_ascii_digit.ensures.value c.if-not-is_ascii_digit.true in
+    rw c.in_ok-b.ensures.cases.0 (pick_no _ _ _ _ d refl)
 
 pub returns-then-b-eq48 : goal.returns-then-b-eq48
 unfolding number_at
 returns-then-b-eq48 c =
+    let d = a_digit _ _ c.is_ascii_digit.ensures.value c.if-not-is_ascii_digit.false in
     rw c.in_ok-b.ensures.cases.0
-    (pick_yes _ _ _ _ (a_digit _ _ c.is_ascii_digit.ensures.value c.if-not-is_ascii_digit.false) (pick_yes _ _ _ _ (eq_yes _ _ c.if-b-eq48.true) refl))
+    (pick_yes _ _ _ _ d (pick_yes _ _ _ _ (eq_yes _ _ c.if-b-eq48.true) refl))
 
 pub returns : goal.returns
 unfolding number_at
 returns c =
-    let d = rw c.in_ok-b.ensures.cases.0 at c.digits_at.ensures in
+    let n = rw c.in_ok-b.ensures.cases.0 at c.digits_at.ensures in
+    let d = a_digit _ _ c.is_ascii_digit.ensures.value c.if-not-is_ascii_digit.false in
     rw c.in_ok-b.ensures.cases.0
-    (pick_yes _ _ _ _ (a_digit _ _ c.is_ascii_digit.ensures.value c.if-not-is_ascii_digit.false) (pick_no _ _ _ _ (eq_no _ _ c.if-b-eq48.false) (ap Some d)))
+    (pick_yes _ _ _ _ d (pick_no _ _ _ _ (eq_no _ _ c.if-b-eq48.false) (ap Some n)))

@@ -1,7 +1,6 @@
 -- A dash is no turns, a first byte that is no letter is nothing, and else the letters are read: the
 -- definition's three cases.
 use mathlib.Core.Path.{refl, ap}
-use borrow.Author.Rules.{rules}
 use Rattle.std.specs.Prelude.{Some}
 use Rattle.base.proofs.Tests.{pick_yes, pick_no, eq_yes, eq_no}
 use Rattle.text.specs.Grammar.{turns_at}
