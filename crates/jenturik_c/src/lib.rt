@@ -433,7 +433,9 @@ fn in_phase(
 }
 
 // The collector's step. Each phase has a call of its own, which the compiler makes a path of its
-// own up to the answer: where the paths meet before it, a call takes a fifth longer.
+// own up to the answer.
+// Kept: tried as one call with the record's phase: the paths meet before the answer then, and
+// jenturik_collect takes 7 % longer, 24.1 ns and not 22.5.
 fn any_phase(
     left: &mut [u16],
     right: &mut [u16],

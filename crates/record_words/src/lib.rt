@@ -166,6 +166,8 @@ fn narrow(w: &[u32; WORDS]) -> u32
 }
 
 // All bits of the words that have no use.
+// Kept: tried as a fold over the slice from word 14 on: Free count takes 5 % longer, 14.8 ns and
+// not 14.1, and Look 3 %.
 fn spare(w: &[u32; WORDS]) -> u32
     ensures { result ≡ spare w.now }
 {
