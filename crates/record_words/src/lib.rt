@@ -196,6 +196,7 @@ pub fn is_record(w: [u32; WORDS]) -> bool
 }
 
 // Whether a phase's numbers are in their ranges, by the number of the phase.
+// Kept: beside the test of rules, which goes by the phase: no record is made of words to be judged.
 fn phase_ok(m: u32, r: u32, tag: u32, i: u32, k: u32) -> bool
     requires { r ≤ most_slots }
     ensures { result ≡ every (position_ok m r tag i ∷ second_ok m tag k ∷ []) }
