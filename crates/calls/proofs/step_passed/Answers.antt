@@ -31,7 +31,8 @@ pub returns-in-3 : goal.returns-in-3
 returns-in-3 c =
     let code = c.requires in
     let done = c.phase_step.ensures in
-    named _ _ _ _ _ (collected c.phase_step.result _ _ _ _ code done.colour_value done.changed_value)
+    named _ _ _ _ _
+    (collected c.phase_step.result _ _ _ _ code done.colour_value done.changed_value)
     (kind_collect _ _ c.in-3.is)
 
 pub returns-in-4 : goal.returns-in-4

@@ -34,6 +34,7 @@ pub returns-else-k-eq1 : goal.returns-else-k-eq1
 unfolding scan_step
 returns-else-k-eq1 c =
     record {
-      by_index = λ es. rw (c.looked-else-k-eq1.ensures, ← c.next.ensures) (search (same, tests, rules) depth 12);
+      by_index = λ es. rw (c.looked-else-k-eq1.ensures, ← c.next.ensures)
+          (search (same, tests, rules) depth 12);
       changed_value = rw c.looked-else-k-eq1.ensures;
     }
