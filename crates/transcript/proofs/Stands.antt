@@ -21,7 +21,6 @@ use Rattle.session.specs.Feeding.{finish}
 use Rattle.session.specs.declared.Run.{Run}
 use Rattle.session.specs.declared.Stage.{Stage}
 use Rattle.session.specs.declared.Stage.TheVariants.{Opening, Second, Loading, Serving}
-use Rattle.session.specs.declared.Stage.TheVariants.{Over, Stopped}
 use Rattle.session.proofs.Feeds.{to_end, found}
 use Rattle.session.proofs.Stands.{over}
 use Rattle.transcript.specs.Leads.{Leads}
