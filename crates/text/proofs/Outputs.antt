@@ -45,7 +45,7 @@ put_sets (b ∷ word) out used h =
     (ap (λ n. written (sets (set out used b) (suc used) word) n) (omega arith)
     ∙ put_sets word (set out used b) (suc used) (omega (arith, length-set out used b)))
 
-put_fits : (word out : List ℕ) (used : ℕ) → used + length word ≤ length out
+pub put_fits : (word out : List ℕ) (used : ℕ) → used + length word ≤ length out
     → written (put_mid used (used + length word - used) out word) (used + length word)
     ≡ put_all (written out used) word
 put_fits word out used h =

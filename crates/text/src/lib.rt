@@ -333,9 +333,13 @@ pub fn put_all(out: &mut [u8], used: usize, word: &[u8]) -> usize
     if out.len() < used {
         return used;
     }
-    let n = usize::min(out.len() - used, word.len());
-    out[used..used + n].copy_from_slice(&word[..n]);
-    used + n
+    let room = out.len() - used;
+    if room < word.len() {
+        out[used..used + room].copy_from_slice(&word[..room]);
+        return used + room;
+    }
+    out[used..used + word.len()].copy_from_slice(word);
+    used + word.len()
 }
 
 fn digit(out: &mut [u8], used: usize, n: u16, ten: u16) -> usize
