@@ -1,12 +1,8 @@
 -- `count_in` meets its contract: the first hurt node decides, and what is beyond the slots' numbers
 -- is counted; there are at least these, so nothing wraps.
 use native.Mathlib.Omega.{arith}
-use Rattle.reach.proofs.Meets.{zero_at}
 use Rattle.in_use.proofs.Laws.{tail_fits, hurt_has, met_hurt, met_whole}
 use Rattle.in_use.proofs.count_in.Goals as goal
-
-pub meet-met-requires-clause-by_index : goal.meet-met-requires-clause-by_index
-meet-met-requires-clause-by_index g c = λ n. zero_at g.row.N n
 
 pub overflow_cast-result : goal.overflow_cast-result
 overflow_cast-result g c =

@@ -4,27 +4,17 @@ use mathlib.Core.Path.{sym, ◌∙◌}
 use native.Mathlib.Omega.{arith}
 use Rattle.base.proofs.Tests.{tests}
 use borrow.Author.Rules.{rules}
-use Rattle.load.proofs.Laws.{chain_turn, chain_out, chain_start}
-use Rattle.load.proofs.Laws.{length_start, length_end, length_next}
+use Rattle.load.proofs.Laws.{chain_turn, chain_out}
+use Rattle.load.proofs.Laws.{length_end, length_next}
 use Rattle.load.proofs.chain.Goals as goal
 use Rattle.load.proofs.chain.Goals.{then-next-graph-via-then-next-graph}
 use Rattle.load.proofs.chain.Goals.{then-next-graph-via-else-next-graph+then-free-to-ne0}
 
-pub loop-k-init : goal.loop-k-init
-loop-k-init c = record {
-  inside = omega arith;
-  rest = chain_start _ _ _ _ 0 _ _;
-  count = length_start _ _ _ 0 _;
-}
-
-pub returns-then-graph-at-ne0 : goal.returns-then-graph-at-ne0
-returns-then-graph-at-ne0 c =
+pub returns-then-graph-at-ne0-clause-answer_value : goal.returns-then-graph-at-ne0-clause-answer_value
+returns-then-graph-at-ne0-clause-answer_value c =
     let right = rw c.from-at.ensures at c.if-graph-at-ne0.true in
-    record {
-      answer_value = rw (c.loop-k.invariant.rest, chain_turn _ _ _ _ _ _ _ c.loop-k-test.true)
-          (search (tests, rules) depth 12);
-      free_value = tt;
-    }
+    rw (c.loop-k.invariant.rest, chain_turn _ _ _ _ _ _ _ c.loop-k-test.true)
+    (search (tests, rules) depth 12)
 
 pub returns-then-next-eq0 : goal.returns-then-next-eq0
 returns-then-next-eq0 c =
@@ -68,8 +58,6 @@ loop-k-preserved c =
       count = length_next _ _ _ _ _ _ c.loop-k.invariant.count c.loop-k-test.true on;
     }
 
-pub returns : goal.returns
-returns c = record {
-  answer_value = chain_out _ _ _ _ _ _ _ (omega arith) ∙ sym c.loop-k.invariant.rest;
-  free_value = tt;
-}
+pub returns-clause-answer_value : goal.returns-clause-answer_value
+returns-clause-answer_value c =
+    chain_out _ _ _ _ _ _ _ (omega arith) ∙ sym c.loop-k.invariant.rest

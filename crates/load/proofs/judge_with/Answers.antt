@@ -3,28 +3,15 @@ use Rattle.std.proofs.lemmas.Result.{err_from_is_err_and}
 use Rattle.load.proofs.Answers.{judge_broken, judge_shared, judge_whole}
 use Rattle.load.proofs.judge_with.Goals as goal
 
-pub chain-requires-clause-below : goal.chain-requires-clause-below
-chain-requires-clause-below c = c.requires.below
-
-pub first_shared-requires-clause-by_index : goal.first_shared-requires-clause-by_index
-first_shared-requires-clause-by_index c = c.requires.by_index
-
-pub returns-in_err-whole : goal.returns-in_err-whole
-returns-in_err-whole c =
+pub returns-in_err-whole-clause-answer_value : goal.returns-in_err-whole-clause-answer_value
+returns-in_err-whole-clause-answer_value c =
     let p = err_from_is_err_and c.from_residual.result c.from_residual.ensures.1 in
-    rw (p.1, p.2) record {
-      answer_value = judge_broken _ _ _ _ _ _ c.in_err-whole.ensures.answer_value;
-      free_value = tt;
-    }
+    rw (p.1, p.2) (judge_broken _ _ _ _ _ _ c.in_err-whole.ensures.answer_value)
 
-pub returns-in-Some : goal.returns-in-Some
-returns-in-Some c = record {
-  answer_value = judge_shared _ _ _ _ _ _ c.in_ok-whole.ensures.answer_value _ c.in-Some.ensures;
-  free_value = tt;
-}
+pub returns-in-Some-clause-answer_value : goal.returns-in-Some-clause-answer_value
+returns-in-Some-clause-answer_value c =
+    judge_shared _ _ _ _ _ _ c.in_ok-whole.ensures.answer_value _ c.in-Some.ensures
 
-pub returns-in-None : goal.returns-in-None
-returns-in-None c = record {
-  answer_value = judge_whole _ _ _ _ _ _ c.in_ok-whole.ensures.answer_value c.in-None.ensures;
-  free_value = c.in_ok-whole.ensures.free_value;
-}
+pub returns-in-None-clause-answer_value : goal.returns-in-None-clause-answer_value
+returns-in-None-clause-answer_value c =
+    judge_whole _ _ _ _ _ _ c.in_ok-whole.ensures.answer_value c.in-None.ensures
