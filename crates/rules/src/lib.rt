@@ -394,8 +394,8 @@ pub fn refusal(code: u8, node: u16, x: Record) -> Made
     refusal_with(code, node, 0, x)
 }
 
-// Kept: bounds of its fields are clauses and no invariant, since a record may hold any numbers until
-// it is judged.
+// Kept: bounds of its fields are clauses and no invariant, since a record may hold any numbers
+// until it is judged.
 impl Record {
     // Roots 0, nothing owed, all other counts 0.
     pub fn fresh(m: u16, r: u16, last: u16, free: u16) -> Record

@@ -107,6 +107,7 @@ fn feed(
 {
     let mut run = g;
     let mut next = i;
+    // Kept: a line has any number of bytes, so no range counts the turns.
     while next < input.len() {
         let fed = next_line(left, right, colour, line, out, run, input, next);
         run = fed.run;

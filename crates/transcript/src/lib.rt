@@ -116,6 +116,7 @@ fn feed(b: &mut Buffers<'_>, s: Session, input: &[u8]) -> Session
 {
     let mut t = emptied(s);
     let mut next = 0;
+    // Kept: a turn takes a line, or the steps up to the block's end, so no range counts the turns.
     while next < input.len() {
         next = lead(b, &mut t, input, next);
     }
