@@ -6,13 +6,12 @@ ghost use Rattle.rules.specs.Table.{state};
 ghost use Rattle.rules.specs.Lent.{given};
 ghost use Rattle.text.specs.Grammar.{is_export, entry};
 ghost use Rattle.lines.specs.Lines.{loaded};
-ghost use Rattle.session.specs.Feeding.{standing, stand, standing_in, stand_in, SameSlices};
-ghost use Rattle.session.specs.Feeding.{stopped, filled, noting};
+ghost use Rattle.session.specs.Feeding.{standing, stand, stopped, filled, noting};
 ghost use Rattle.session.specs.Replaces.{Replaces};
 
 use lines::Told;
 use rules::Record;
-use session::{Buffers, Run, Session, Stage};
+use session::{Run, Session, Stage};
 use text::Edges;
 
 // Whether the first at bytes of the line begin an export.
@@ -66,15 +65,24 @@ fn load_part(
 }
 
 // All lines of an export are read: Load answers, and its table is served unless it is refused.
-fn fill(b: &mut Buffers<'_>, g: Run, m: usize) -> Session
-    ensures same { SameSlices b.old b.new }
-    ensures stands { stand_in result b.new ≡ filled m (standing_in (Stage.Serving m) g b.old) }
+fn fill(
+    left: &mut [u16],
+    right: &mut [u16],
+    colour: &mut [u8],
+    lefts: &[u32],
+    rights: &[u32],
+    out: &mut [u8],
+    g: Run,
+    m: usize,
+) -> Session
+    ensures { (line : List ℕ)
+        → stand result left.new right.new colour.new lefts.now rights.now line out.new
+        ≡ filled m (standing (Stage.Serving m) g left.old right.old colour.old lefts.now
+        rights.now line out.old) }
 {
     let n = usize::from(g.rec.m);
-    let lefts = &mut *b.lefts;
-    let rights = &mut *b.rights;
-    let told = load_part(b.left, b.right, b.colour, lefts, rights, g.rec, m, n);
-    let used = text::say(b.out, g.used, told.code, told.node);
+    let told = load_part(left, right, colour, lefts, rights, g.rec, m, n);
+    let used = text::say(out, g.used, told.code, told.node);
     let rec = told.rec;
     Session {
         stage: Stage::after(told.code, Stage::Serving(m), Stage::Stopped(m)),
@@ -118,21 +126,32 @@ fn entry_of(line: &[u8], at: usize, n: usize) -> Option<Edges>
 }
 
 // Line n of an export is at its end.
-pub fn load_line(b: &mut Buffers<'_>, g: Run, m: usize, n: usize) -> Session
-    ensures same { SameSlices b.old b.new }
-    ensures stands { stand_in result b.new ≡ noting m n (entry (take g.at b.old.line.now) n)
-        (standing_in (Stage.Serving m) g b.old) }
+pub fn load_line(
+    left: &mut [u16],
+    right: &mut [u16],
+    colour: &mut [u8],
+    lefts: &mut [u32],
+    rights: &mut [u32],
+    line: &[u8],
+    out: &mut [u8],
+    g: Run,
+    m: usize,
+    n: usize,
+) -> Session
+    ensures { stand result left.new right.new colour.new lefts.new rights.new line.now
+        out.new
+        ≡ noting m n (entry (take g.at line.now) n) (standing (Stage.Serving m) g left.old
+        right.old colour.old lefts.old rights.old line.now out.old) }
 {
-    let line = &mut *b.line;
     let Some(edges) = entry_of(line, g.at, n) else {
-        return stop(b.out, g, m);
+        return stop(out, g, m);
     };
-    note(b.lefts, b.rights, n, edges);
+    note(lefts, rights, n, edges);
     if more(g.rec.m, n) {
         return Session {
             stage: Stage::Loading(m, n + 1),
             run: Run { at: 0, ..g },
         };
     }
-    fill(b, g, m)
+    fill(left, right, colour, lefts, rights, out, g, m)
 }

@@ -2,18 +2,17 @@
 // block's end.
 #![tactic(auto)]
 
-ghost use Rattle.std.specs.Prelude.{◌≡◌, ◌<◌, length, take, drop};
+ghost use Rattle.std.specs.Prelude.{◌≡◌, List, ℕ, ◌<◌, length, take, drop};
 ghost use Rattle.rules.specs.Table.{state};
 ghost use Rattle.rules.specs.Lent.{given};
 ghost use Rattle.text.specs.Grammar.{read};
 ghost use Rattle.lines.specs.Lines.{prints, opened, later};
-ghost use Rattle.session.specs.Feeding.{fold, ended, eats, standing_in, stand_in, SameSlices};
-ghost use Rattle.session.specs.Feeding.{begun};
+ghost use Rattle.session.specs.Feeding.{fold, ended, eats, standing, stand, begun};
 ghost use Rattle.serving.specs.Serving.{going, next_byte, fed, next_line};
 
 use lines::Told;
 use rules::Record;
-use session::{Buffers, Run, Session, Stage};
+use session::{Run, Session, Stage};
 
 // The position of the next byte, and where the bytes before it led.
 #[derive(Clone, Copy)]
@@ -116,23 +115,30 @@ fn feed(
     run
 }
 
-// The same where the table is in the first m entries of the buffers, which are lent in part.
-pub fn serve(b: &mut Buffers<'_>, g: Run, m: usize, input: &[u8], i: usize) -> Session
-    ensures same { SameSlices b.old b.new }
-    ensures stands { stand_in result b.new
-        ≡ fold eats (drop i input.now) (standing_in (Stage.Serving m) g b.old) }
+// The same where the table is in the first m entries of longer ones, which are lent in part.
+pub fn serve(
+    left: &mut [u16],
+    right: &mut [u16],
+    colour: &mut [u8],
+    line: &mut [u8],
+    out: &mut [u8],
+    g: Run,
+    m: usize,
+    input: &[u8],
+    i: usize,
+) -> Session
+    ensures { (ls rs : List ℕ)
+        → stand result left.new right.new colour.new ls rs line.new out.new
+        ≡ fold eats (drop i input.now)
+        (standing (Stage.Serving m) g left.old right.old colour.old
+        ls rs line.old out.old) }
 {
-    let left = &mut *b.left;
-    let right = &mut *b.right;
-    let colour = &mut *b.colour;
-    let line = &mut *b.line;
-    let out = &mut *b.out;
-    let l = m.min(left.len());
-    let r = m.min(right.len());
+    let a = m.min(left.len());
+    let b = m.min(right.len());
     let c = m.min(colour.len());
     let run = feed(
-        &mut left[..l],
-        &mut right[..r],
+        &mut left[..a],
+        &mut right[..b],
         &mut colour[..c],
         line,
         out,
@@ -156,13 +162,21 @@ fn first_of(left: &mut [u16], right: &mut [u16], colour: &mut [u8], line: &[u8],
 }
 
 // The first line is at its end: it is answered, and begins a table unless it is refused.
-pub fn begin(b: &mut Buffers<'_>, g: Run) -> Session
-    ensures same { SameSlices b.old b.new }
-    ensures stands { stand_in result b.new ≡ begun (standing_in Stage.Opening g b.old) }
+pub fn begin(
+    left: &mut [u16],
+    right: &mut [u16],
+    colour: &mut [u8],
+    line: &[u8],
+    out: &mut [u8],
+    g: Run,
+) -> Session
+    ensures { (ls rs : List ℕ)
+        → stand result left.new right.new colour.new ls rs line.now out.new
+        ≡ begun (standing Stage.Opening g left.old right.old colour.old ls rs line.now
+        out.old) }
 {
-    let line = &mut *b.line;
-    let opened = first_of(b.left, b.right, b.colour, line, g.at);
-    let used = text::say(b.out, g.used, opened.code, opened.node);
+    let opened = first_of(left, right, colour, line, g.at);
+    let used = text::say(out, g.used, opened.code, opened.node);
     let rec = opened.rec;
     let m = usize::from(rec.m);
     Session {

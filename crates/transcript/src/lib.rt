@@ -2,8 +2,10 @@
 // block makes of where the run stands is defined in crate session.
 #![tactic(auto)]
 
-ghost use Rattle.std.specs.Prelude.{◌≡◌, List, ℕ, ◌<◌, length, get_or};
-ghost use Rattle.session.specs.Feeding.{stand, stand_in, SameSlices};
+ghost use Rattle.std.specs.Prelude.{◌≡◌, List, ℕ, ◌<◌, length, get_or, take, drop};
+ghost use Rattle.text.specs.Grammar.{entry};
+ghost use Rattle.session.specs.Feeding.{fold, eats, noting, standing_in, stand, stand_in};
+ghost use Rattle.session.specs.Feeding.{SameSlices};
 ghost use Rattle.session.specs.Feeding.{emptied, block, bare, closed, finish, turn};
 ghost use Rattle.session.specs.Feeding.{is_over, is_stopped, started};
 ghost use Rattle.transcript.specs.Leads.{Leads};
@@ -13,6 +15,27 @@ use session::{Buffers, Run, Session, Stage};
 
 // The bytes of a line that are kept: one more than a line may have.
 pub const LINE: usize = 81;
+
+// Line n of an export is at its end.
+fn load_line(b: &mut Buffers<'_>, g: Run, m: usize, n: usize) -> Session
+    ensures same { SameSlices b.old b.new }
+    ensures stands { stand_in result b.new ≡ noting m n (entry (take g.at b.old.line.now) n)
+        (standing_in (Stage.Serving m) g b.old) }
+{
+    let line = &mut *b.line;
+    export::load_line(
+        b.left, b.right, b.colour, b.lefts, b.rights, line, b.out, g, m, n,
+    )
+}
+
+// Steps are served, from the newline at position i on up to the block's end.
+fn serve(b: &mut Buffers<'_>, g: Run, m: usize, input: &[u8], i: usize) -> Session
+    ensures same { SameSlices b.old b.new }
+    ensures stands { stand_in result b.new
+        ≡ fold eats (drop i input.now) (standing_in (Stage.Serving m) g b.old) }
+{
+    serving::serve(b.left, b.right, b.colour, b.line, b.out, g, m, input, i)
+}
 
 // The line at hand is at its end, at position i: the line after the first begins an export, or is
 // the first step, and steps are served up to the block's end. The position of the next byte.
@@ -25,25 +48,26 @@ fn end_line(b: &mut Buffers<'_>, s: &mut Session, input: &[u8], i: usize) -> usi
     let g = s.run;
     match s.stage {
         Stage::Opening => {
-            *s = serving::begin(b, g);
+            let line = &mut *b.line;
+            *s = serving::begin(b.left, b.right, b.colour, line, b.out, g);
             i + 1
         }
         Stage::Second(m) => {
             let line = &mut *b.line;
             if export::is_export(line, g.at) {
-                *s = export::load_line(b, g, m, 0);
+                *s = load_line(b, g, m, 0);
                 i + 1
             } else {
-                *s = serving::serve(b, g, m, input, i);
+                *s = serve(b, g, m, input, i);
                 input.len()
             }
         }
         Stage::Loading(m, n) => {
-            *s = export::load_line(b, g, m, n);
+            *s = load_line(b, g, m, n);
             i + 1
         }
         Stage::Serving(m) => {
-            *s = serving::serve(b, g, m, input, i);
+            *s = serve(b, g, m, input, i);
             input.len()
         }
         Stage::Over => input.len(),

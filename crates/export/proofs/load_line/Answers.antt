@@ -4,19 +4,19 @@ use Rattle.session.specs.Feeding.{noting}
 use Rattle.export.proofs.Filled.{noted_more, noted_last}
 use Rattle.export.proofs.load_line.Goals as goal
 
-pub returns-in_default-clause-stands : goal.returns-in_default-clause-stands
+pub returns-in_default : goal.returns-in_default
 unfolding noting
-returns-in_default-clause-stands c =
+returns-in_default c =
     rw (← c.entry_of.ensures, c.in_default.is) (c.stop.ensures _ _ _ _ _ _)
 
-pub returns-then-more-clause-stands : goal.returns-then-more-clause-stands
-returns-then-more-clause-stands c =
+pub returns-then-more : goal.returns-then-more
+returns-then-more c =
     rw (← c.entry_of.ensures, c.in-Some.is)
     (noted_more _ _ _ _ _ _ _ _ _ _ _ _ _ c.note.ensures.left c.note.ensures.right
     (sym c.if-more.true ∙ c.more.ensures.value))
 
-pub returns-clause-stands : goal.returns-clause-stands
-returns-clause-stands c =
+pub returns : goal.returns
+returns c =
     rw (← c.entry_of.ensures, c.in-Some.is)
     (noted_last _ _ _ _ _ _ _ _ _ _ _ _ _ c.note.ensures.left c.note.ensures.right
-    (sym c.if-more.false ∙ c.more.ensures.value) _ c.fill.ensures.stands)
+    (sym c.if-more.false ∙ c.more.ensures.value) _ (c.fill.ensures _))

@@ -2,7 +2,7 @@
 use Rattle.serving.proofs.Served.{begun_so}
 use Rattle.serving.proofs.begin.Goals as goal
 
-pub returns-clause-stands : goal.returns-clause-stands
-returns-clause-stands c =
+pub returns : goal.returns
+returns c = λ ls rs.
     begun_so _ _ _ _ _ _ _ _ _ _ _ _ _ _ _ _ _ c.first_of-opened.ensures c.say-used.ensures
     (rw c.from-m.ensures at c.after.ensures)

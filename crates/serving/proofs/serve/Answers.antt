@@ -5,9 +5,9 @@ use Rattle.session.proofs.Parts.{lent}
 use Rattle.serving.proofs.Served.{served}
 use Rattle.serving.proofs.serve.Goals as goal
 
-pub returns-clause-stands : goal.returns-clause-stands
-returns-clause-stands c =
+pub returns : goal.returns
+returns c =
     served _ _ _ _ _ _ _ _ _ _ _ _ _ _ _ _ _
-    (lent _ _ _ _ c.min-l.ensures (omega arith))
-    (lent _ _ _ _ c.min-r.ensures (omega arith))
-    (lent _ _ _ _ c.min-c.ensures (omega arith)) c.feed-run.ensures _ _
+    (lent _ _ _ _ c.min-a.ensures (omega arith))
+    (lent _ _ _ _ c.min-b.ensures (omega arith))
+    (lent _ _ _ _ c.min-c.ensures (omega arith)) c.feed-run.ensures

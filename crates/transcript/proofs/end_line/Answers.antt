@@ -8,7 +8,7 @@ pub returns-in-Opening-clause-leads : goal.returns-in-Opening-clause-leads
 returns-in-Opening-clause-leads c =
     rw c.in-Opening.is
     (leads_first _ _ c.requires.i_in_bounds c.requires.i_value _ _ _ _ _ _ _ _ _
-    c.begin.ensures.stands)
+    (c.begin.ensures _ _))
 
 pub returns-then-is_export-clause-leads : goal.returns-then-is_export-clause-leads
 returns-then-is_export-clause-leads c =
