@@ -1,12 +1,7 @@
 -- `first` meets its contract: `opened` goes by what the line says, as the code does.
 use mathlib.Core.Path.{◌∙◌}
-use Rattle.lines.specs.Lines.{opened}
 use Rattle.lines.proofs.Firsts.{not_first}
 use Rattle.lines.proofs.first.Goals as goal
-
-pub returns-in-First : goal.returns-in-First
-unfolding opened
-returns-in-First c = rw (← c.read.ensures, c.in-First.is) c.begin.ensures
 
 pub returns-in-Do : goal.returns-in-Do
 returns-in-Do c =
