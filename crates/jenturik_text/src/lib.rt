@@ -76,6 +76,7 @@ fn entry(stage: Stage) -> usize
 }
 
 // The session's words; the output is not among them.
+// Kept: the casts narrow by `as`: that each number fits is what `Fits` requires.
 fn words_of(s: Session) -> [u32; WORDS]
     requires { Fits s }
     ensures value { result ≡ words_of s.stage s.run.rec s.run.at }
