@@ -158,7 +158,9 @@ fn widen(few: &[u16], order: &mut [u16])
     requires { length few.now ≤ length order.old }
     ensures { (k : ℕ) → k < length few.now → get_or order.new k 0 ≡ get_or few.now k 0 }
 {
-    order[..few.len()].copy_from_slice(few);
+    for (k, node) in few.iter().enumerate() {
+        order[k] = *node;
+    }
 }
 
 // The same as `visit_rest` with room for all nodes, so that none is left.
