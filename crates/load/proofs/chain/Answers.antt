@@ -10,7 +10,8 @@ use Rattle.load.proofs.chain.Goals as goal
 use Rattle.load.proofs.chain.Goals.{then-next-graph-via-then-next-graph}
 use Rattle.load.proofs.chain.Goals.{then-next-graph-via-else-next-graph+then-free-to-ne0}
 
-pub returns-then-graph-at-ne0-clause-answer_value : goal.returns-then-graph-at-ne0-clause-answer_value
+pub returns-then-graph-at-ne0-clause-answer_value
+    : goal.returns-then-graph-at-ne0-clause-answer_value
 returns-then-graph-at-ne0-clause-answer_value c =
     let right = rw c.from-at.ensures at c.if-graph-at-ne0.true in
     rw (c.loop-k.invariant.rest, chain_turn _ _ _ _ _ _ _ c.loop-k-test.true)
