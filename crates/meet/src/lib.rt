@@ -158,8 +158,8 @@ fn widen(few: &[u16], order: &mut [u16])
     requires { length few.now ≤ length order.old }
     ensures { (k : ℕ) → k < length few.now → get_or order.new k 0 ≡ get_or few.now k 0 }
 {
-    // Kept: tried: after `copy_from_slice` all of the longer queue is cleared first: In use at
-    // M = 1,024 then takes 1,665 ns in place of 1,492.
+    // Kept: tried: before `copy_from_slice` all of the longer queue is cleared: In use at M = 1,024,
+    // 503 nodes in use, then takes 1,665 ns in place of 1,492 (at M = 4,096 there is no gain).
     for (k, node) in few.iter().enumerate() {
         order[k] = *node;
     }
