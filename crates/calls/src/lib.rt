@@ -46,12 +46,17 @@ fn target(a: Step) -> Place
 }
 
 // The code of what is no step: 1, 2, else 10.
+// Kept: a number, as `rules::check` answers it, and as the definition `unreadable` is one.
 pub fn unreadable(lefts: usize, rights: usize, colours: usize, x: Record) -> u8
     ensures { result ≡ unreadable lefts rights colours x }
 {
     let code = rules::check(lefts, rights, colours, x);
     if code == 0 { 10 } else { code }
 }
+
+// Kept: slices and record go one by one: a struct of `&mut` slices would need a clause in each
+// function that it lends the same ones afterwards, as `SameSlices` of session is. That they pass is
+// a clause, since a table and a record from C may be anything.
 
 // One step, by its kind, where neither code 1 nor 2 is given.
 pub fn step_passed(

@@ -14,6 +14,10 @@ ghost use Rattle.rules.specs.declared.Answer.TheVariants.{Looked};
 
 use rules::{Answer, Made, Phase, Record};
 
+// Kept: slices and record go one by one: a struct of `&mut` slices would need a clause in each
+// function that it lends the same ones afterwards, as `SameSlices` of session is. That they pass is
+// a clause, since a table and a record from C may be anything.
+
 // Shades node n, and goes on to a phase.
 fn shade_step(colour: &mut [u8], x: Record, n: u16, then: Phase) -> Made
     requires checked { Checked x.m x.m (length colour.old) x }
@@ -153,7 +157,8 @@ fn append_step(left: &mut [u16], right: &mut [u16], colour: &mut [u8], x: Record
 }
 
 // The step of a phase, where neither code 1 nor 2 is given.
-// Kept: the phase stands beside the record, since `any_phase` hands over one that it made anew.
+// Kept: the phase stands beside the record, since `any_phase` of schedule and of
+// jenturik_c hands over one that it made anew.
 pub fn phase_step(
     left: &mut [u16],
     right: &mut [u16],

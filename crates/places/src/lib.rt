@@ -11,6 +11,7 @@ ghost use Rattle.places.specs.Sources.{edit_code, missed, source_of};
 use rules::{Damaged, Place, Record};
 
 // Why a step that changes an edge has no source: a code, a node and a detail.
+// Kept: code and detail are numbers, as `rules::refusal_with` takes them.
 #[derive(Clone, Copy)]
 pub struct Refusal {
     pub code: u8,
@@ -97,8 +98,9 @@ pub fn edit_code(x: Record, p: Place, side: u32, target: u8) -> u8
 }
 
 // From node start, turn by turn, lowest bit first.
-// Kept: the edges are two slices and m, as `table::edge` takes them: a struct of them would be made
-// anew by each call that changes an edge.
+// Kept: two slices and m: a struct of them would be made anew by each call that changes an edge,
+// since there the slices are `&mut`.
+// Kept: `as`, here and below: each number is proved to fit.
 pub fn walk_from(
     left: &[u16],
     right: &[u16],

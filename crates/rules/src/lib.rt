@@ -30,7 +30,7 @@ pub const LEFT: u8 = 0;
 pub const RIGHT: u8 = 1;
 
 // [Codes 15] Why Append should not meet a node.
-// Kept: numbers, as a detail is one in `refused_with` and in C.
+// Kept: these and the sides above are numbers, as a detail is one in `refused_with` and in C.
 pub const GRAY_NODE: u8 = 0;
 
 pub const WHITE_ROOT: u8 = 1;
@@ -78,6 +78,7 @@ pub struct Record {
     pub phase: Phase,
     // The node whose shade is owed, if one is. NIL may be owed.
     pub owed: Option<u16>,
+    // Kept: FREE (1) where the list is empty, as `last_ok`, `fresh_last` and C's words have it.
     pub last: u16,
     pub steps: u32,
     pub cycles: u32,
@@ -136,7 +137,8 @@ pub struct Damaged {
 }
 
 // A step as a kind and seven numbers: 0 take, 1 link, 2 shade, 3 collect, 4 look.
-// Kept: a kind and a side are any numbers, since [Codes 10] is for those that are none.
+// Kept: a kind and a side are any numbers, since [Codes 10] is for those that are none; the places
+// are three numbers each, as C's words and the definition `step_of` have them.
 #[derive(Clone, Copy)]
 pub struct Step {
     pub kind: u32,
@@ -259,7 +261,7 @@ fn read_ok(m: u32, i: u32, n: u32) -> bool
     i < m && node_ok(m, n)
 }
 
-// An arm for each phase and not its numbers: this is done at every step.
+// By the phase and not its numbers: this is done at every step.
 #[tactic(auto, unfolding(base::specs::Choice::every, crate::specs::Check::phase_ok, crate::specs::Check::position_ok, crate::specs::Check::second_ok, base::specs::Choice::pick))]
 fn phase_ok(m: u16, r: u16, p: Phase) -> bool
     requires { r ≤ most_slots }
@@ -362,7 +364,8 @@ fn record_ok(x: Record) -> bool
 }
 
 // Codes 1 and 2, for slices of these lengths; 0 where neither is given.
-// Kept: a number and no Result, since the clause is that it is `check_of`'s.
+// Kept: a number and no Result, since the clause is that it is `check_of`'s; none of its callers
+// answers a Result, so `?` has no place there.
 pub fn check(lefts: usize, rights: usize, colours: usize, x: Record) -> u8
     ensures { result ≡ check_of (lefts ∷ rights ∷ []) colours x }
 {
@@ -387,7 +390,8 @@ pub fn refusal_with(code: u8, node: u16, detail: u8, x: Record) -> Made
 }
 
 // The same where there is no more to tell.
-// Kept: two functions, as the definitions are two words, `refusal_with` and `refusal`.
+// Kept: two functions, as the definitions are two words, `refusal_with` and `refusal`; and so are
+// `Answer::refused_with` and `refused`.
 pub fn refusal(code: u8, node: u16, x: Record) -> Made
     ensures { result ≡ refusal code node x }
 {

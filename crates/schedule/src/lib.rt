@@ -15,6 +15,8 @@ ghost use Rattle.rules.specs.Lent.{given, leaves};
 use rules::{Made, Phase, Ran, Record, Step};
 
 // The steps of a schedule, whatever they stand in.
+// Kept: steps by their place and no iterator: a step of words is made as it is read, and what is
+// left of the list from there on is all that the loop needs to know.
 pub trait Steps {
     ghost list: { Self → List Step };
 
@@ -42,6 +44,7 @@ impl<'a> Steps for &'a [Step] {
 }
 
 // After a step: one more is done, or its code ends the run.
+// Kept: code 0 tells a step that is done, as the definitions `after` and `follow` have it.
 fn after(so_far: Ran, made: Made) -> Ran
     requires done_bound { so_far.done + 1 < 18446744073709551616 }
     requires changed_bound { so_far.changed + made.changed < 18446744073709551616 }
@@ -65,6 +68,10 @@ fn after(so_far: Ran, made: Made) -> Ran
         }
     }
 }
+
+// Kept: slices and record go one by one: a struct of `&mut` slices would need a clause in each
+// function that it lends the same ones afterwards, as `SameSlices` of session is. That they pass is
+// a clause, since a table and a record from C may be anything. `Goes` speaks of them too.
 
 // The collector's step in the record's phase.
 fn in_phase(

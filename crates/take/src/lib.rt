@@ -13,7 +13,9 @@ ghost use Rattle.rules.specs.Lent.{given, leaves};
 
 use rules::{Answer, Made, Place, Record};
 
-// Kept: the table is three lent slices, as in the public calls, and the record goes by value.
+// Kept: slices and record go one by one: a struct of `&mut` slices would need a clause in each
+// function that it lends the same ones afterwards, as `SameSlices` of session is. That they pass is
+// a clause, since a table and a record from C may be anything.
 
 // Whether an edge of the free chain is bad: to a root other than NIL, or at least M.
 #[tactic(auto, unfolding(base::specs::Choice::every, rules::specs::Editor::bad_free))]
