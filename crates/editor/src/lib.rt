@@ -139,17 +139,16 @@ pub fn link(
 }
 
 // Shades the node owed; refused 6 where nothing is.
-fn pay(colour: &mut [u8], x: Record, owed: Option<u16>) -> Made
-    requires { Owable (length colour.old) owed }
+fn pay(colour: &mut [u8], x: Record) -> Made
+    requires { Owable (length colour.old) x.owed }
     ensures by_index { (es : List (List ℕ)) → handed result es colour.new
-        ≡ pay (table es colour.old x) owed }
+        ≡ pay (table es colour.old x) x.owed }
     ensures changed_value { result.changed ≡ differing colour.old colour.new }
 {
-    match owed {
+    match x.owed {
         None => rules::refusal(6, 0, x),
         Some(n) => {
-            let at = n as usize;
-            if 2 < colour[at] {
+            if colour[usize::from(n)] > table::BLACK {
                 return rules::refusal(14, n, x);
             }
             let changed = table::shade_node(colour, n);
@@ -170,7 +169,7 @@ pub fn shade_passed(left: &[u16], right: &[u16], colour: &mut [u8], x: Record) -
     ensures changed_value { result.changed
         ≡ changes shading (given left.now right.now colour.old x) }
 {
-    pay(colour, x, x.owed)
+    pay(colour, x)
 }
 
 // Shades the node owed, and nothing is owed afterwards.
