@@ -51,8 +51,8 @@ fn relink(
     ensures value { result ≡ differing colour.old colour.new }
 {
     table::set_edge(left, right, side, n, f);
-    table::set_edge(left, right, 0, 1, g);
-    table::set_edge(left, right, 0, f, 0);
+    left[1] = g;
+    left[usize::from(f)] = 0;
     table::shade_node(colour, f)
 }
 
@@ -78,8 +78,7 @@ fn take_next(
     if bad_free(x.m, x.r, g) {
         return rules::refusal_with(7, f, rules::LEFT, x);
     }
-    let first = f as usize;
-    if 2 < colour[first] {
+    if colour[usize::from(f)] > table::BLACK {
         return rules::refusal(14, f, x);
     }
     if g == 0 {
@@ -90,8 +89,7 @@ fn take_next(
             rec: x.less_free().with_last(1),
         };
     }
-    let next = g as usize;
-    if 2 < colour[next] {
+    if colour[usize::from(g)] > table::BLACK {
         return rules::refusal(14, g, x);
     }
     let taken = relink(left, right, colour, n, side, f, g);
@@ -127,7 +125,7 @@ fn take_first(
     if f == 0 {
         return rules::refusal(9, 0, x);
     }
-    let g = table::edge(left, right, 0, f);
+    let g = left[usize::from(f)];
     take_next(left, right, colour, x, n, side, f, g)
 }
 
@@ -151,7 +149,7 @@ fn take_from(
 {
     match places::depart(left, right, x.m, p) {
         Ok(n) => {
-            let f = table::edge(left, right, 0, 1);
+            let f = left[1];
             take_first(left, right, colour, x, side, f, n)
         }
         Err(why) => rules::refusal_with(why.code, why.node, why.detail, x),
