@@ -39,12 +39,10 @@ fn relink(
 ) -> u8
     requires side_bound { side < 2 }
     requires in_bounds { 1 < length left.old }
-    requires in_bounds_2 { 1 < length right.old }
     requires n_in_bounds { n < length left.old }
     requires n_in_bounds_2 { n < length right.old }
     requires f_in_bounds { f < length left.old }
-    requires f_in_bounds_2 { f < length right.old }
-    requires f_in_bounds_3 { f < length colour.old }
+    requires f_in_bounds_2 { f < length colour.old }
     ensures x_value { (x : Record) → state left.new right.new colour.new x
         ≡ relink (given left.old right.old colour.old x) n side f g }
     ensures colour_value { colour.new ≡ shade_in colour.old f }
