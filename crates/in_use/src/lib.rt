@@ -34,7 +34,7 @@ fn count_in<const N: usize>(graph: Graph) -> Answer
         (meet graph.entry.m graph.entry.r (graph.entry.left.now ∷ graph.entry.right.now ∷ [])) }
 {
     let mut marks = [0; N];
-    let met = meet::meet(graph.left, graph.right, &mut marks, graph.m, graph.r);
+    let met = meet::meet(graph, &mut marks);
     match met.hurt {
         Some(n) => Answer::refused_with(7, n, hurt_side(graph.left, graph.m, n)),
         None => Answer::Counted(met.tail as u16 - (graph.r + 2)),

@@ -2,7 +2,7 @@
 #![tactic(auto)]
 
 ghost use Rattle.std.specs.Prelude.{◌≡◌, List, [], ◌∷◌, ℕ, ◌+◌, ◌<◌, ◌≤◌};
-ghost use Rattle.std.specs.Prelude.{length, get_or, take, true, IfOk};
+ghost use Rattle.std.specs.Prelude.{length, take, true, IfOk};
 ghost use Rattle.rules.specs.Table.{most_nodes, most_slots, handed, refused_with};
 ghost use Rattle.rules.specs.Meet.{blank, meet, any_edge, first_side};
 ghost use Rattle.rules.specs.Load.{load_size_of, bad_given, first_bad, chained, chain};
@@ -167,41 +167,21 @@ fn lowest_shared(free: &[u8], marks: &[u8], m: u16) -> Option<u16>
     None
 }
 
-// Code 13: the lowest free node that slots reach, if there is one. The marks are zeros.
-fn first_shared(graph: Graph, free: &[u8], marks: &mut [u8]) -> Option<u16>
-    requires m_in_bounds { graph.m ≤ length free.now }
-    requires m_in_bounds_2 { graph.m ≤ length marks.old }
-    requires by_index { (n : ℕ) → get_or marks.old n 0 ≡ 0 }
+// Code 13: the lowest free node that slots reach, if there is one, with N marks.
+fn first_shared<const N: usize>(graph: Graph, free: &[u8]) -> Option<u16>
+    requires m_in_bounds { graph.m ≤ N }
+    requires n_le_most_nodes { N ≤ most_nodes }
+    requires m_in_bounds_2 { graph.m ≤ length free.now }
     ensures { result ≡ found graph.entry.m (first_shared graph.entry.m free.now
         (meet graph.entry.m graph.entry.r
         (graph.entry.left.now ∷ graph.entry.right.now ∷ [])).num) }
 {
-    meet::meet(graph.left, graph.right, marks, graph.m, graph.r);
-    lowest_shared(free, marks, graph.m)
+    let mut marks = [0; N];
+    meet::meet(graph, &mut marks);
+    lowest_shared(free, &marks, graph.m)
 }
 
-// Codes 12 and 13, for edges that are good, with marks that are zeros.
-fn judge_with(graph: Graph, free: &mut [u8], marks: &mut [u8]) -> Result<FreeChain, Fault>
-    requires m_in_bounds { graph.m ≤ length free.old }
-    requires m_in_bounds_2 { graph.m ≤ length marks.old }
-    requires by_index { (n : ℕ) → get_or marks.old n 0 ≡ 0 }
-    requires below { Below graph.m graph.left.now }
-    ensures answer_value { answer_of result
-        ≡ judge_free graph.entry.m graph.entry.r
-        (graph.entry.left.now ∷ graph.entry.right.now ∷ [])
-        (chain graph.entry.r (graph.entry.left.now ∷ graph.entry.right.now ∷ []) graph.entry.m
-        free.old 1) }
-    ensures free_value { IfOk result (λ c. c.free
-        ≡ chain_length (graph.entry.left.now ∷ graph.entry.right.now ∷ []) graph.entry.m 1) }
-{
-    let whole = chain(graph, free)?;
-    match first_shared(graph, free, marks) {
-        Some(n) => Err(Fault::Shared(n)),
-        None => Ok(whole),
-    }
-}
-
-// The same, with N marks of each kind.
+// Codes 12 and 13, for edges that are good, with N marks of each kind.
 fn judge_in<const N: usize>(graph: Graph) -> Result<FreeChain, Fault>
     requires m_in_bounds { graph.m ≤ N }
     requires n_le_most_nodes { N ≤ most_nodes }
@@ -215,8 +195,11 @@ fn judge_in<const N: usize>(graph: Graph) -> Result<FreeChain, Fault>
         ≡ chain_length (graph.entry.left.now ∷ graph.entry.right.now ∷ []) graph.entry.m 1) }
 {
     let mut free = [0; N];
-    let mut marks = [0; N];
-    judge_with(graph, &mut free, &mut marks)
+    let whole = chain(graph, &mut free)?;
+    match first_shared::<N>(graph, &free) {
+        Some(n) => Err(Fault::Shared(n)),
+        None => Ok(whole),
+    }
 }
 
 // The same; a table of few nodes has no more marks cleared than it may need.

@@ -111,7 +111,8 @@ fn visit_edges(graph: Graph, marks: &mut [u8], order: &mut [u16], n: u16, met: V
     requires shows { Shows graph.m marks.old order.old met.tail }
     ensures tail_bound { result.tail ≤ met.tail + 2 }
     ensures hurt_value { result.hurt
-        ≡ pick (any_edge (bad_edge graph.entry.m) (graph.entry.left.now ∷ graph.entry.right.now ∷ []) n)
+        ≡ pick (any_edge (bad_edge graph.entry.m)
+        (graph.entry.left.now ∷ graph.entry.right.now ∷ []) n)
         (Some (lowest n met.hurt)) met.hurt }
     ensures shown { (s : Met) → Shown graph.entry.m marks.old order.old met.tail s
         → Shown graph.entry.m marks.new order.new result.tail
@@ -190,24 +191,19 @@ fn visit_many(graph: Graph, marks: &mut [u8], few: &[u16], start: Walk) -> Visit
 // to follow the edges of a few nodes.
 // Kept: `marks` are numbers, as in the definition `is_shared`, and the queue is an array with a tail
 // beside it, since there is no heap.
-pub fn meet(left: &[u16], right: &[u16], marks: &mut [u8], m: u16, r: u16) -> Visited
-    requires m_le_most_nodes { m ≤ most_nodes }
-    requires r_le_most_slots { r ≤ most_slots }
-    requires r_bound { r + 2 ≤ m }
-    requires left_len { length left.now ≡ m }
-    requires right_len { length right.now ≡ m }
-    requires m_in_bounds { m ≤ length marks.old }
+pub fn meet(graph: Graph, marks: &mut [u8]) -> Visited
+    requires m_in_bounds { graph.m ≤ length marks.old }
     requires by_index { (n : ℕ) → get_or marks.old n 0 ≡ 0 }
-    ensures { Told m (left.now ∷ right.now ∷ []) marks.new result.tail result.hurt
-        (meet m r (left.now ∷ right.now ∷ [])) }
+    ensures { Told graph.entry.m (graph.entry.left.now ∷ graph.entry.right.now ∷ []) marks.new
+        result.tail result.hurt
+        (meet graph.entry.m graph.entry.r (graph.entry.left.now ∷ graph.entry.right.now ∷ [])) }
 {
-    let graph = Graph { left, right, m, r };
     let mut few = [0u16; FEW];
-    visit_slots(marks, &mut few, m, r);
+    visit_slots(marks, &mut few, graph.m, graph.r);
     let start = Walk {
         next: 2,
         met: Visited {
-            tail: usize::from(r) + 2,
+            tail: usize::from(graph.r) + 2,
             hurt: None,
         },
     };

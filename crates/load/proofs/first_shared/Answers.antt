@@ -6,5 +6,5 @@ use Rattle.load.proofs.Answers.{shared_same}
 use Rattle.load.proofs.first_shared.Goals as goal
 
 pub returns : goal.returns
-returns c =
+returns g c =
     c.lowest_shared.ensures ∙ ap (found c.args.graph.m) (shared_same c.meet.ensures _)
