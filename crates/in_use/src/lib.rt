@@ -1,11 +1,11 @@
 // In use: how many nodes slots reach at the moment of asking. Nothing is written.
 #![tactic(auto)]
 
-ghost use Rattle.std.specs.Prelude.{◌≡◌, List, [], ◌∷◌, ℕ, ◌+◌, ◌<◌, ◌≤◌, length, get_or, true};
-ghost use Rattle.rules.specs.Table.{most_nodes, most_slots, bad_edge};
+ghost use Rattle.std.specs.Prelude.{◌≡◌, List, [], ◌∷◌, ℕ, ◌<◌, ◌≤◌, length, true};
+ghost use Rattle.rules.specs.Table.{most_nodes, bad_edge};
 ghost use Rattle.rules.specs.Lent.{given};
-ghost use Rattle.rules.specs.Meet.{met, meet, any_edge, first_side};
-ghost use Rattle.rules.specs.InUse.{first_hurt, count_met, in_use};
+ghost use Rattle.rules.specs.Meet.{meet, any_edge, first_side};
+ghost use Rattle.rules.specs.InUse.{count_met, in_use};
 
 use meet::{FEW_NODES, Graph};
 use rules::{Answer, MOST_NODES, Record};
@@ -26,6 +26,8 @@ fn hurt_side(left: &[u16], m: u16, n: u16) -> u8
 }
 
 // What is answered of a table that passes its test, with N marks.
+// Kept: the marks are an array of N, since there is no heap; `as`, since the number
+// is proved to fit.
 fn count_in<const N: usize>(graph: Graph) -> Answer
     requires m_in_bounds { graph.m ≤ N }
     requires n_le_most_nodes { N ≤ most_nodes }

@@ -77,6 +77,8 @@ fn first_bad(lefts: &[u32], rights: &[u32], m: u32) -> Option<usize>
     requires rights_len { length rights.now ≡ m }
     ensures { result ≡ found m (first_bad m (lefts.now ∷ rights.now ∷ [])) }
 {
+    // Kept: a loop, as in `lowest_shared`: std has no lemma of what `find` promises (`FindsItem`),
+    // as it has of `position` (`IsFirst-from_position`), whose answer is a `usize`.
     for n in 0..lefts.len() {
         if bad_node(lefts, rights, m, n) {
             return Some(n);
@@ -102,18 +104,22 @@ fn bad_side(lefts: &[u32], m: u32, n: usize) -> u8
 }
 
 // The edges given, as 16-bit numbers.
+// Kept: `as`, here and below: each number is proved to fit.
 fn narrow(given: &[u32], edges: &mut [u16])
     requires given_in_bounds { length given.now ≤ length edges.old }
     requires below { Below most_nodes given.now }
     ensures { take (length given.now) edges.new ≡ given.now }
 {
+    // Kept: by `enumerate`: in a loop over `edges.iter_mut().zip(given)` the invariant has no
+    // `edges` to speak of, and what is known here is of its first n.
     for (n, edge) in given.iter().enumerate() {
         edges[n] = *edge as u16;
     }
 }
 
 // Code 12: the free chain, or the first node that breaks it. The free nodes are marked.
-// Kept: the marks are numbers, as the definition `chain` has them.
+// Kept: the marks are numbers, as the definition `chain` has them. `Below` is a clause and no ghost
+// field of `Graph`, since In use follows graphs with bad edges.
 fn chain(graph: Graph, free: &mut [u8]) -> Result<FreeChain, Fault>
     requires m_in_bounds { graph.m ≤ length free.old }
     requires below { Below graph.m graph.left.now }
@@ -251,6 +257,8 @@ fn load_table(given: Graph, left: &mut [u16], right: &mut [u16], colour: &mut [u
 }
 
 // The same of lists of 32-bit numbers, with room for the 16 bits of N of each.
+// Kept: lists, slices, m and r go one by one, here and below: the `Graph` of the 16-bit lists is
+// made here. The room is two arrays, since there is no heap.
 fn load_in<const N: usize>(
     lefts: &[u32],
     rights: &[u32],
@@ -277,13 +285,13 @@ fn load_in<const N: usize>(
         (left.old ∷ right.old ∷ []) colour.old }
     ensures changed_value { result.changed ≡ 0 }
 {
-    let mut l = [0; N];
-    let mut g = [0; N];
-    narrow(lefts, &mut l);
-    narrow(rights, &mut g);
+    let mut narrow_lefts = [0; N];
+    let mut narrow_rights = [0; N];
+    narrow(lefts, &mut narrow_lefts);
+    narrow(rights, &mut narrow_rights);
     let given = Graph {
-        left: &l[..lefts.len()],
-        right: &g[..rights.len()],
+        left: &narrow_lefts[..lefts.len()],
+        right: &narrow_rights[..rights.len()],
         m,
         r,
     };
@@ -322,6 +330,7 @@ fn load_good(
 }
 
 // Refused: no table is made.
+// Kept: the code is a number, as `refused_with` of the rules has it.
 fn refused(code: u8, node: u16, detail: u8) -> Made
     requires { 0 < code }
     ensures by_index { (m r : ℕ) (given edges : List (List ℕ)) (colours : List ℕ)
@@ -334,6 +343,7 @@ fn refused(code: u8, node: u16, detail: u8) -> Made
 
 // A table of m nodes and r slots with the edges of two lists, and its record.
 // Refused: 1, 11, 12, 13.
+// Kept: left and right edges are two lists each, as C lends them (jenturik_load).
 pub fn load(
     lefts: &[u32],
     rights: &[u32],

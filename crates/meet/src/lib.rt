@@ -57,6 +57,8 @@ fn lowest(n: u16, hurt: Option<u16>) -> u16
 
 // An edge e of node n is followed. A node that has a number is written behind the queue's end,
 // where nothing is read: so no branch is taken by what is met.
+// Kept: marks and queue are two slices, here and below, since `visit_many` goes on with a longer
+// queue over the same marks.
 fn visit(marks: &mut [u8], order: &mut [u16], m: u16, n: u16, e: u16, met: Visited) -> Visited
     requires le_m { 2 ≤ m }
     requires m_in_bounds { m ≤ length marks.old }
@@ -123,11 +125,11 @@ fn visit_edges(graph: Graph, marks: &mut [u8], order: &mut [u16], n: u16, met: V
     visit(marks, order, graph.m, n, graph.right[at], once)
 }
 
-// The edges of all nodes from number k on, also of those that get one meanwhile, while the queue
-// has room for what a node's edges lead to.
+// The edges of all nodes from the number start.next on, also of those that get one meanwhile, while
+// the queue has room for what a node's edges lead to.
 fn visit_rest(graph: Graph, marks: &mut [u8], order: &mut [u16], start: Walk) -> Walk
     requires m_in_bounds { graph.m ≤ length marks.old }
-    requires le_k { 2 ≤ start.next }
+    requires le_next { 2 ≤ start.next }
     requires start_in_bounds { start.met.tail ≤ length order.old }
     requires going { Going graph.m (graph.left.now ∷ graph.right.now ∷ []) marks.old order.old
         start.met.tail start.next start.met.hurt }
@@ -142,7 +144,8 @@ fn visit_rest(graph: Graph, marks: &mut [u8], order: &mut [u16], start: Walk) ->
 {
     let mut next = start.next;
     let mut met = start.met;
-    // Kept: the queue grows while it is read, so that no range or iterator over it is known at first.
+    // Kept: the queue grows while it is read, so that no range or iterator over it is known at
+    // first.
     while next < met.tail {
         if order.len() - met.tail < 2 {
             return Walk { next, met };
@@ -159,8 +162,8 @@ fn widen(few: &[u16], order: &mut [u16])
     requires { length few.now ≤ length order.old }
     ensures { (k : ℕ) → k < length few.now → get_or order.new k 0 ≡ get_or few.now k 0 }
 {
-    // Kept: tried: before `copy_from_slice` all of the longer queue is cleared: In use at M = 1,024,
-    // 503 nodes in use, then takes 1,665 ns in place of 1,492 (at M = 4,096 there is no gain).
+    // Kept: tried: before `copy_from_slice` all of the longer queue is cleared: In use at M = 1,024
+    // (503 nodes in use) then takes 1,665 ns in place of 1,492; at M = 4,096 there is no gain.
     for (k, node) in few.iter().enumerate() {
         order[k] = *node;
     }
@@ -169,7 +172,7 @@ fn widen(few: &[u16], order: &mut [u16])
 // The same as `visit_rest` with room for all nodes, so that none is left.
 fn visit_many(graph: Graph, marks: &mut [u8], few: &[u16], start: Walk) -> Visited
     requires m_in_bounds { graph.m ≤ length marks.old }
-    requires le_k { 2 ≤ start.next }
+    requires le_next { 2 ≤ start.next }
     requires start_in_bounds { start.met.tail ≤ length few.now }
     requires going { Going graph.m (graph.left.now ∷ graph.right.now ∷ []) marks.old few.now
         start.met.tail start.next start.met.hurt }
@@ -186,11 +189,12 @@ fn visit_many(graph: Graph, marks: &mut [u8], few: &[u16], start: Walk) -> Visit
     visit_rest(graph, marks, &mut order, start).met
 }
 
-// All that the slots reach along good edges: the nodes that have a number are marked. The marks are
-// given as zeros. The queue has few entries at first, since it takes longer to clear a long one than
-// to follow the edges of a few nodes.
-// Kept: `marks` are numbers, as in the definition `is_shared`, and the queue is an array with a tail
-// beside it, since there is no heap.
+// All that the slots reach along good edges: the nodes that have a number are marked. The marks
+// are given as zeros. The queue has few entries at first, since it takes longer to clear a long one
+// than to follow the edges of a few nodes.
+// Kept: `marks` are numbers, as in the definition `is_shared`, and that they are zeros is a clause:
+// the caller makes them, of its own length. The queue is an array with a tail beside it, since
+// there is no heap.
 pub fn meet(graph: Graph, marks: &mut [u8]) -> Visited
     requires m_in_bounds { graph.m ≤ length marks.old }
     requires by_index { (n : ℕ) → get_or marks.old n 0 ≡ 0 }

@@ -27,7 +27,7 @@ visit_many-requires c =
     let g = e.gone _ (rw c.from.ensures v) (hurt_none _ v.kept) in
     record {
       m_in_bounds = omega (arith, c.requires);
-      le_k = omega (arith, e.le_next);
+      le_next = omega (arith, e.le_next);
       start_in_bounds = omega (arith, e.tail_in_bounds);
       going = record { some = g.at; shown = g.shown; hurt = g.hurt };
     }

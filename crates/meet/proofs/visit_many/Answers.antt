@@ -33,7 +33,7 @@ visit_rest-requires c =
     let at = copied _ _ _ c.requires.start_in_bounds c.widen.ensures in
     record {
       m_in_bounds = omega arith;
-      le_k = omega arith;
+      le_next = omega arith;
       start_in_bounds = omega (arith, top w.shown.kept (omega arith), w.shown.end);
       going = record { some = w.some; shown = shown_longer _ at w.shown; hurt = w.hurt };
     }
