@@ -6,6 +6,7 @@ ghost use Rattle.rules.specs.Table.{most_nodes, bad_edge};
 ghost use Rattle.rules.specs.Lent.{given};
 ghost use Rattle.rules.specs.Meet.{meet, any_edge, first_side};
 ghost use Rattle.rules.specs.InUse.{count_met, in_use};
+ghost use Rattle.meet.specs.Edges.{edges};
 
 use meet::{FEW_NODES, Graph};
 use rules::{Answer, MOST_NODES, Record};
@@ -32,8 +33,7 @@ fn count_in<const N: usize>(graph: Graph) -> Answer
     requires m_in_bounds { graph.m ≤ N }
     requires n_le_most_nodes { N ≤ most_nodes }
     ensures { result ≡ count_met graph.entry.m graph.entry.r
-        (graph.entry.left.now ∷ graph.entry.right.now ∷ [])
-        (meet graph.entry.m graph.entry.r (graph.entry.left.now ∷ graph.entry.right.now ∷ [])) }
+        (edges graph.entry) (meet graph.entry.m graph.entry.r (edges graph.entry)) }
 {
     let mut marks = [0; N];
     let met = meet::meet(graph, &mut marks);
@@ -46,8 +46,7 @@ fn count_in<const N: usize>(graph: Graph) -> Answer
 // The same; a table of few nodes has no more marks cleared than it may need.
 fn count(graph: Graph) -> Answer
     ensures { result ≡ count_met graph.entry.m graph.entry.r
-        (graph.entry.left.now ∷ graph.entry.right.now ∷ [])
-        (meet graph.entry.m graph.entry.r (graph.entry.left.now ∷ graph.entry.right.now ∷ [])) }
+        (edges graph.entry) (meet graph.entry.m graph.entry.r (edges graph.entry)) }
 {
     if usize::from(graph.m) <= FEW_NODES {
         return count_in::<FEW_NODES>(graph);

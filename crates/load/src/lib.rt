@@ -10,6 +10,7 @@ ghost use Rattle.rules.specs.Load.{chain_length, is_shared, first_shared, judge_
 ghost use Rattle.rules.specs.Load.{load_by, load};
 ghost use Rattle.load.specs.GoodEdges.{Below, load_good, found, answer_of, fault_answer};
 ghost use Rattle.rules.specs.Lent.{leaves};
+ghost use Rattle.meet.specs.Edges.{edges};
 
 use meet::{FEW_NODES, Graph};
 use rules::{Answer, MOST_NODES, Made, Record};
@@ -124,10 +125,9 @@ fn chain(graph: Graph, free: &mut [u8]) -> Result<FreeChain, Fault>
     requires m_in_bounds { graph.m ≤ length free.old }
     requires below { Below graph.m graph.left.now }
     ensures answer_value { chained free.new (answer_of result)
-        ≡ chain graph.entry.r (graph.entry.left.now ∷ graph.entry.right.now ∷ []) graph.entry.m
-        free.old 1 }
+        ≡ chain graph.entry.r (edges graph.entry) graph.entry.m free.old 1 }
     ensures free_value { IfOk result (λ c. c.free
-        ≡ chain_length (graph.entry.left.now ∷ graph.entry.right.now ∷ []) graph.entry.m 1) }
+        ≡ chain_length (edges graph.entry) graph.entry.m 1) }
 {
     let mut n = 1;
     for k in 0..graph.m {
@@ -179,8 +179,7 @@ fn first_shared<const N: usize>(graph: Graph, free: &[u8]) -> Option<u16>
     requires n_le_most_nodes { N ≤ most_nodes }
     requires m_in_bounds_2 { graph.m ≤ length free.now }
     ensures { result ≡ found graph.entry.m (first_shared graph.entry.m free.now
-        (meet graph.entry.m graph.entry.r
-        (graph.entry.left.now ∷ graph.entry.right.now ∷ [])).num) }
+        (meet graph.entry.m graph.entry.r (edges graph.entry)).num) }
 {
     let mut marks = [0; N];
     meet::meet(graph, &mut marks);
@@ -193,12 +192,10 @@ fn judge_in<const N: usize>(graph: Graph) -> Result<FreeChain, Fault>
     requires n_le_most_nodes { N ≤ most_nodes }
     requires below { Below graph.m graph.left.now }
     ensures answer_value { answer_of result
-        ≡ judge_free graph.entry.m graph.entry.r
-        (graph.entry.left.now ∷ graph.entry.right.now ∷ [])
-        (chain graph.entry.r (graph.entry.left.now ∷ graph.entry.right.now ∷ []) graph.entry.m
-        blank 1) }
+        ≡ judge_free graph.entry.m graph.entry.r (edges graph.entry)
+        (chain graph.entry.r (edges graph.entry) graph.entry.m blank 1) }
     ensures free_value { IfOk result (λ c. c.free
-        ≡ chain_length (graph.entry.left.now ∷ graph.entry.right.now ∷ []) graph.entry.m 1) }
+        ≡ chain_length (edges graph.entry) graph.entry.m 1) }
 {
     let mut free = [0; N];
     let whole = chain(graph, &mut free)?;
@@ -212,12 +209,10 @@ fn judge_in<const N: usize>(graph: Graph) -> Result<FreeChain, Fault>
 fn judge(graph: Graph) -> Result<FreeChain, Fault>
     requires { Below graph.m graph.left.now }
     ensures answer_value { answer_of result
-        ≡ judge_free graph.entry.m graph.entry.r
-        (graph.entry.left.now ∷ graph.entry.right.now ∷ [])
-        (chain graph.entry.r (graph.entry.left.now ∷ graph.entry.right.now ∷ []) graph.entry.m
-        blank 1) }
+        ≡ judge_free graph.entry.m graph.entry.r (edges graph.entry)
+        (chain graph.entry.r (edges graph.entry) graph.entry.m blank 1) }
     ensures free_value { IfOk result (λ c. c.free
-        ≡ chain_length (graph.entry.left.now ∷ graph.entry.right.now ∷ []) graph.entry.m 1) }
+        ≡ chain_length (edges graph.entry) graph.entry.m 1) }
 {
     if usize::from(graph.m) <= FEW_NODES {
         return judge_in::<FEW_NODES>(graph);
@@ -232,8 +227,7 @@ fn load_table(given: Graph, left: &mut [u16], right: &mut [u16], colour: &mut [u
     requires colour_len { length colour.old ≡ given.m }
     requires below { Below given.m given.left.now }
     ensures colour_value { leaves result left.new right.new colour.new
-        ≡ load_good given.entry.m given.entry.r
-        (given.entry.left.now ∷ given.entry.right.now ∷ [])
+        ≡ load_good given.entry.m given.entry.r (edges given.entry)
         (left.old ∷ right.old ∷ []) colour.old }
     ensures changed_value { result.changed ≡ 0 }
 {
