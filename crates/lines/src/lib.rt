@@ -14,6 +14,9 @@ ghost use Rattle.rules.specs.Lent.{given};
 use rules::{Made, Ran, Record};
 use text::Said;
 
+// Kept: the code is a number of the rules, 0 where the line is done, as its line of output prints it
+// (`said` in crate text).
+
 // What a line prints, and the record that it leaves.
 #[derive(Clone, Copy)]
 pub struct Told {
@@ -32,15 +35,16 @@ impl From<Made> for Told {
         ≡ answered (outcome d l r c) };
 
     fn from(d: Made) -> Told {
-        let answer = d.answer;
-        let rec = d.rec;
         Told {
-            code: answer.code(),
-            node: answer.node(),
-            rec,
+            code: d.answer.code(),
+            node: d.answer.node(),
+            rec: d.rec,
         }
     }
 }
+
+// Kept: slices and record one by one in the functions below: a struct of three `&mut` slices would
+// need a clause in each that it lends the same ones afterwards, as `SameSlices` of session is.
 
 fn start_of(done: usize, i: u16) -> u16
     ensures { result ≡ start_of done i }
@@ -54,14 +58,12 @@ fn collect_many(left: &mut [u16], right: &mut [u16], colour: &mut [u8], x: Recor
         ≡ schedule (collects n) (given left.old right.old colour.old x) }
 {
     let made = batch::collect_many(left, right, colour, x, n);
-    let answer = made.answer;
-    let rec = made.rec;
     Ran {
         done: made.done,
-        code: answer.code(),
-        detail: answer.detail(),
+        code: made.answer.code(),
+        detail: made.answer.detail(),
         changed: made.changed,
-        rec,
+        rec: made.rec,
     }
 }
 
@@ -72,22 +74,19 @@ fn collect_some(left: &mut [u16], right: &mut [u16], colour: &mut [u8], x: Recor
         ≡ collected n (given left.old right.old colour.old x) }
 {
     let most = collect_many(left, right, colour, x, (n - 1) as usize);
-    let rec = most.rec;
-    let phase = rec.phase;
-    let i = rules::position(phase);
+    let i = rules::position(most.rec.phase);
     if most.code != 0 {
         return Told {
             code: most.code,
             node: start_of(most.done, i),
-            rec,
+            rec: most.rec,
         };
     }
-    let last = collect_many(left, right, colour, rec, 1);
-    let rec = last.rec;
+    let last = collect_many(left, right, colour, most.rec, 1);
     Told {
         code: last.code,
         node: start_of(most.done + last.done, i),
-        rec,
+        rec: last.rec,
     }
 }
 
@@ -99,11 +98,10 @@ fn collect(left: &mut [u16], right: &mut [u16], colour: &mut [u8], x: Record, n:
         return collect_some(left, right, colour, x, n);
     }
     let none = collect_many(left, right, colour, x, 0);
-    let rec = none.rec;
     Told {
         code: none.code,
         node: 0,
-        rec,
+        rec: none.rec,
     }
 }
 
