@@ -21,7 +21,7 @@ pub struct Fed {
     pub run: Run,
 }
 
-// Kept: five slices and a Run go through the loop over the lines of a block; tried: one `&mut
+// Kept: in the loop over the lines of a block five slices and a Run go one by one; tried: one `&mut
 // Buffers` and a Session, with the table's entries lent for each line, took 17 % more time for
 // 1,000,000 lines (146 ms against 125 ms).
 
@@ -54,9 +54,8 @@ fn ended(
         ≡ ended (going g left.old right.old colour.old line.now out.old) }
 {
     let told = later_of(left, right, colour, g.rec, line, g.at);
-    let rec = told.rec;
     Run {
-        rec,
+        rec: told.rec,
         at: 0,
         used: text::say(out, g.used, told.code, told.node),
     }
@@ -116,6 +115,7 @@ fn feed(
 }
 
 // The same where the table is in the first m entries of longer ones, which are lent in part.
+// Kept: the slices one by one: with `Buffers` a caller would have to lend lefts and rights too.
 pub fn serve(
     left: &mut [u16],
     right: &mut [u16],
@@ -162,6 +162,8 @@ fn first_of(left: &mut [u16], right: &mut [u16], colour: &mut [u8], line: &[u8],
 }
 
 // The first line is at its end: it is answered, and begins a table unless it is refused.
+// Kept: the slices one by one: with `Buffers` a caller would have to lend lefts and rights too, and
+// the line, which is only read here, as one to write.
 pub fn begin(
     left: &mut [u16],
     right: &mut [u16],
@@ -177,10 +179,13 @@ pub fn begin(
 {
     let opened = first_of(left, right, colour, line, g.at);
     let used = text::say(out, g.used, opened.code, opened.node);
-    let rec = opened.rec;
-    let m = usize::from(rec.m);
+    let m = usize::from(opened.rec.m);
     Session {
         stage: Stage::after(opened.code, Stage::Second(m), Stage::Over),
-        run: Run { rec, at: 0, used },
+        run: Run {
+            rec: opened.rec,
+            at: 0,
+            used,
+        },
     }
 }

@@ -8,10 +8,11 @@ ghost use Rattle.session.specs.Feeding.{newline_from};
 
 use rules::Record;
 
-const NEWLINE: u8 = 10;
+const NEWLINE: u8 = b'\n';
 
 // What goes on from line to line beside the buffers: the record, the bytes of the line at hand, and
 // those of the output that are used.
+// Kept: at and used count what is filled of two lent buffers (`jenturik_turn`): there is no heap.
 #[derive(Clone, Copy)]
 pub struct Run {
     pub rec: Record,
@@ -50,6 +51,9 @@ impl Stage {
 
 // The buffers that a run is lent: the program's own table, the lists of an export's edges, the line
 // at hand and the output.
+// Kept: left and right edges are two lists each, as C lends them (`jenturik_load`, `jenturik_turn`).
+// Kept: SameSlices is a clause of each function that is lent these: it compares before and after,
+// which no field or invariant can.
 #[derive(Drop)]
 pub struct Buffers<'a> {
     pub left: &'a mut [u16],
