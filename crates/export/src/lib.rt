@@ -35,6 +35,7 @@ pub fn stop(out: &mut [u8], g: Run, m: usize) -> Session
 }
 
 // Load of the first n edges of the lists, in the first m entries of the tables.
+// Kept: slices and lengths one by one: their parts are made here.
 fn load_part(
     left: &mut [u16],
     right: &mut [u16],
@@ -83,15 +84,18 @@ fn fill(
     let n = usize::from(g.rec.m);
     let told = load_part(left, right, colour, lefts, rights, g.rec, m, n);
     let used = text::say(out, g.used, told.code, told.node);
-    let rec = told.rec;
     Session {
         stage: Stage::after(told.code, Stage::Serving(m), Stage::Stopped(m)),
-        run: Run { rec, at: 0, used },
+        run: Run {
+            rec: told.rec,
+            at: 0,
+            used,
+        },
     }
 }
 
-// Kept: the test of n in place of `list.get_mut(n)`; tried: of the arm `None` it is not known that
-// the list stays.
+// Kept: tried, `list.get_mut(n)`: the proof does not close, since nothing says that the list stays
+// where it answers None.
 fn keep(list: &mut [u32], n: usize, e: u32)
     ensures { list.new ≡ set list.old n e }
 {
@@ -126,6 +130,8 @@ fn entry_of(line: &[u8], at: usize, n: usize) -> Option<Edges>
 }
 
 // Line n of an export is at its end.
+// Kept: the slices one by one: with `Buffers` a caller would have to lend the line, which is only
+// read here, as one to write.
 pub fn load_line(
     left: &mut [u16],
     right: &mut [u16],
