@@ -51,6 +51,8 @@ fn again(error: io::Error) -> bool {
     }
 }
 
+// 0..u64::MAX, here and below: each loop ends, and the input has no known length.
+
 // The next bytes of the input: how many came, none at its end.
 fn read(mut stdin: Stdin, input: &mut [u8]) -> Result<usize, Failure> {
     for _ in 0..u64::MAX {
@@ -127,6 +129,7 @@ fn serve(
 }
 
 fn main(rt: HostRuntime) -> io::Result<()> {
+    // Kept: arrays, since there is no heap.
     let mut left = [0u16; rules::MOST_NODES];
     let mut right = [0u16; rules::MOST_NODES];
     let mut colour = [0u8; rules::MOST_NODES];

@@ -77,6 +77,8 @@ fn after<'a>(line: &'a [u8], word: &[u8]) -> Option<&'a [u8]>
     line.strip_prefix(word)
 }
 
+// Kept: no `parse`: a number ends at the first byte that is no digit, or after seven, and what
+// follows it is read on.
 fn digits_at(line: &[u8]) -> (u32, &[u8])
     ensures { (result.0, result.1.now) ≡ digits_at line.now 7 0 }
 {
@@ -366,6 +368,7 @@ fn decimal(out: &mut [u8], used: usize, n: u16) -> usize
 
 // Puts an answer's line behind the bytes of the output that are used, as far as there is room;
 // answers how many are used then.
+// Kept: no Display: the clause has each byte (said), also where the output has no room for all.
 pub fn say(out: &mut [u8], used: usize, code: u8, node: u16) -> usize
     ensures { written out.new result ≡ put_all (written out.old used) (said code node) }
 {

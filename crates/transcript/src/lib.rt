@@ -70,8 +70,7 @@ fn end_line(b: &mut Buffers<'_>, s: &mut Session, input: &[u8], i: usize) -> usi
             *s = serve(b, g, m, input, i);
             input.len()
         }
-        Stage::Over => input.len(),
-        Stage::Stopped(_) => input.len(),
+        Stage::Over | Stage::Stopped(_) => input.len(),
     }
 }
 
@@ -153,8 +152,7 @@ fn bare(s: Session) -> bool
 {
     match s.stage {
         Stage::Opening => false,
-        Stage::Over => true,
-        Stage::Stopped(_) => true,
+        Stage::Over | Stage::Stopped(_) => true,
         _ => s.run.at == 0,
     }
 }

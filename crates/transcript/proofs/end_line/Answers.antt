@@ -1,4 +1,5 @@
 -- `end_line` meets its contract: a line of each stage does at its end what `line_ended` says.
+use mathlib.Core.Logic.{inl, inr}
 use mathlib.Core.Path.{refl, sym, ◌∙◌}
 use Rattle.transcript.proofs.Stands.{leads_first, leads_export, leads_entry, leads_served}
 use Rattle.transcript.proofs.Stands.{leads_step, leads_over}
@@ -36,8 +37,7 @@ returns-in-Serving-clause-leads c =
 
 pub returns-in-Over-clause-leads : goal.returns-in-Over-clause-leads
 returns-in-Over-clause-leads c =
-    rw c.in-Over.is (leads_over _ _ _ _ _ _ _ _ _ _ _ c.requires.i_in_bounds refl)
-
-pub returns-in-Stopped-clause-leads : goal.returns-in-Stopped-clause-leads
-returns-in-Stopped-clause-leads c =
-    rw c.in-Stopped.is (leads_over _ _ _ _ _ _ _ _ _ _ _ c.requires.i_in_bounds refl)
+    elim c.in-Over.is [
+      | inl q ↦ rw q (leads_over _ _ _ _ _ _ _ _ _ _ _ c.requires.i_in_bounds refl)
+      | inr q ↦ rw q.1 (leads_over _ _ _ _ _ _ _ _ _ _ _ c.requires.i_in_bounds refl)
+    ]
