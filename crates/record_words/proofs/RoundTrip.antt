@@ -15,11 +15,11 @@ use Rattle.rules.proofs.Phases.{phase_back, phase_there}
 use Rattle.rules.specs.Phases.{tag_of, position, second}
 use Rattle.rules.specs.Records.{with_owed, with_last, with_free}
 use Rattle.rules.specs.declared.Record.{Record}
-use Rattle.record_words.specs.Words.{word, owes_of, owed_of, words_of, moved}
+use Rattle.record_words.specs.Words.{word, owes_of, owed_of, laid_out, words_of, moved}
 use Rattle.record_words.specs.Words.{shade_of}
 use Rattle.record_words.specs.Words.{record_of, flagged, is_record, Within, WORDS, USED, unused}
 use Rattle.record_words.specs.Words.{NODES, SLOTS, PHASE, I, K, OWES, OWED, LAST}
-use Rattle.record_words.specs.Words.{FREECOUNT}
+use Rattle.record_words.specs.Words.{STEPS, CYCLES, TOOK, BLACKENED, LASTBLACKENED, FREECOUNT}
 use Rattle.record_words.proofs.Widths.{widths, words_are, owes_most}
 use Rattle.rules.specs.Records.{Owed}
 use Rattle.std.specs.Prelude.{Some, None}
@@ -143,18 +143,43 @@ module _ (w : List ℕ) (e : true ≡ is_record w) (x : Record) where
       kept : {a b c d : ℕ} {f g : Owed} → a ≡ b → c ≡ d → f ≡ g → all a c f ≡ all b d g
       kept h i j = rw (h, i, j) refl
 
-pub all_stored : (w w₁ w₂ : List ℕ) → true ≡ is_record w → (x : Record) (owes n : ℕ)
-    → w₁ ≡ set w NODES x.m → w₂ ≡ set w₁ SLOTS x.r → owes ≡ owes_of x.owed → n ≡ owed_of x.owed
-    → moved (set (set w₂ OWES owes) OWED n) x ≡ words_of x
+-- the words where M and R are stored
+placed : (w w₁ w₂ : List ℕ) → true ≡ is_record w → (x : Record) → w₁ ≡ set w NODES x.m
+    → w₂ ≡ set w₁ SLOTS x.r → w₂ ≡ x.m ∷ x.r ∷ part w PHASE (WORDS - PHASE)
 unfolding is_record
-all_stored w w₁ w₂ e x owes n p q o d =
+placed w w₁ w₂ e x p q =
     let all = whole_words w WORDS (eqb-true (length w) WORDS (each _ e).0) in
     let nodes = p ∙ ap (λ (v : List ℕ). set v NODES x.m) all in
-    let slots = q ∙ ap (λ (v : List ℕ). set v SLOTS x.r) nodes in
+    q ∙ ap (λ (v : List ℕ). set v SLOTS x.r) nodes
+
+-- the words in use from the phase on, stored one after the other
+abbrev stored : List ℕ → Record → ℕ → ℕ → ℕ → ℕ → ℕ → List ℕ
+stored w x tag i k owes n =
+    set (set (set (set (set (set (set (set (set (set (set (set w PHASE tag) I i) K k) OWES owes)
+    OWED n) LAST x.last) STEPS x.steps) CYCLES x.cycles) TOOK x.took) BLACKENED
+    x.blackened) LASTBLACKENED x.lastblackened) FREECOUNT x.free
+
+pub all_stored : (w w₁ w₂ : List ℕ) → true ≡ is_record w → (x : Record) (tag i k owes n : ℕ)
+    → w₁ ≡ set w NODES x.m → w₂ ≡ set w₁ SLOTS x.r
+    → stored w₂ x tag i k owes n ≡ laid_out x tag i k owes n
+all_stored w w₁ w₂ e x tag i k owes n p q =
+    ap (λ (v : List ℕ). stored v x tag i k owes n) (placed w w₁ w₂ e x p q)
+    ∙ ap
+    (λ (v : List ℕ). x.m ∷ x.r ∷ tag ∷ i ∷ k ∷ owes ∷ n ∷ x.last ∷ x.steps ∷ x.cycles
+    ∷ x.took ∷ x.blackened ∷ x.lastblackened ∷ x.free ∷ v)
+    (sym (idle w e))
+
+-- the same in the order of put: what is owed, and then what a step can change
+pub all_put : (w w₁ w₂ : List ℕ) → true ≡ is_record w → (x : Record) (owes n : ℕ)
+    → w₁ ≡ set w NODES x.m → w₂ ≡ set w₁ SLOTS x.r → owes ≡ owes_of x.owed → n ≡ owed_of x.owed
+    → moved (set (set w₂ OWES owes) OWED n) x ≡ words_of x
+all_put w w₁ w₂ e x owes n p q o d =
+    let slots = placed w w₁ w₂ e x p q in
     rw (o, d)
     (ap (λ (v : List ℕ). moved (set (set v OWES (owes_of x.owed)) OWED (owed_of x.owed)) x) slots
-    ∙ ap
-    (λ (v : List ℕ). x.m ∷ x.r ∷ tag_of x.phase ∷ position x.phase ∷ second x.phase
-    ∷ owes_of x.owed ∷ owed_of x.owed ∷ x.last ∷ x.steps ∷ x.cycles
-    ∷ x.took ∷ x.blackened ∷ x.lastblackened ∷ x.free ∷ v)
-    (sym (idle w e)))
+    ∙ sym
+    (ap
+    (λ (v : List ℕ). stored v x (tag_of x.phase) (position x.phase) (second x.phase)
+    (owes_of x.owed) (owed_of x.owed)) slots)
+    ∙ all_stored w w₁ w₂ e x (tag_of x.phase) (position x.phase) (second x.phase)
+    (owes_of x.owed) (owed_of x.owed) p q)
