@@ -49,10 +49,7 @@ const FREECOUNT: usize = 13;
 fn owes(o: Option<u16>) -> u32
     ensures { result ≡ owes_of o }
 {
-    match o {
-        None => 0,
-        Some(_) => 1,
-    }
+    u32::from(o.is_some())
 }
 
 fn owed(o: Option<u16>) -> u16
@@ -62,6 +59,8 @@ fn owed(o: Option<u16>) -> u16
 }
 
 // The record's words.
+// Kept: this and `record_of` are functions and no `TryFrom`: that words are a record's is tested
+// apart (`is_record`), and code 2 tells it.
 pub fn words_of(x: Record) -> [u32; WORDS]
     ensures value { result ≡ words_of x }
     ensures true_value { true ≡ is_record result }
@@ -101,6 +100,8 @@ fn put_moved(words: &mut [u32; WORDS], x: Record)
 }
 
 // Words that were a record's become those of this one; those that have no use stay 0.
+// Kept: that words are a record's is a clause, here and below, and no type's invariant: C lends the
+// array, with any numbers.
 pub fn put(words: &mut [u32; WORDS], x: Record)
     requires { true ≡ is_record words.old }
     ensures words_value { words.new ≡ words_of x }
@@ -237,7 +238,7 @@ fn counts_ok(w: [u32; WORDS], b: u32) -> bool
     w[TOOK] <= b
 }
 
-// Whether the record passes that words are: the tests of `rules::check`, without the record.
+// Whether the record passes that words are: the tests of `rules::record_ok`, without the record.
 fn record_ok(w: [u32; WORDS]) -> bool
     requires true_value { true ≡ is_record w }
     requires w_bound { word w NODES ≤ most_nodes }
@@ -287,8 +288,8 @@ fn shade_of(owes: u32, n: u16) -> Option<u16>
     if owes == 0 { None } else { Some(n) }
 }
 
-// Kept: the casts narrow by `as`: that each word fits is what `Within` says, so `try_from` would
-// answer an error that cannot come.
+// Kept: the casts narrow by `as`, here, above and below: that each word fits is what `Within` says,
+// so `try_from` would answer an error that cannot come; std has no `From` of 32 bits to `usize`.
 fn picked_up(w: [u32; WORDS], phase: Phase, owed: Option<u16>) -> Record
     requires { Within w WORDS }
     ensures { result ≡ picked_up w phase owed }
