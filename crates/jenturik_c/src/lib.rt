@@ -57,11 +57,13 @@ const TOWORD: usize = 7;
 const UNUSED: usize = 8;
 
 // A kind that no step has.
+// Kept: a number, as `kind_at` has it: any kind above 4 is code 10.
 const NO_KIND: u32 = 4294967295;
 
 // What a call answers: what was done (0: refused), the code, the detail, the node, and how many
 // colours it changed.
-// Kept: this and the next three are structs of numbers, the C interface (include/jenturik.h).
+// Kept: this and the next three are structs of numbers, the C interface (include/jenturik.h). They
+// are made by hand, since each call fits its counts in its own way.
 #[repr(C)]
 #[derive(Clone, Copy)]
 pub struct Told {
@@ -158,6 +160,9 @@ fn refused(code: u8) -> Told
     tell(Answer::refused(code, 0), 0)
 }
 
+// Kept: here and in the calls below the slices, the words and the numbers of a place are parameters
+// of their own, the C interface.
+
 // The record that words are, where it passes with slices of these lengths; else code 1 or 2.
 // Kept: the error is a number: the codes are those of the rules (`judged` [C 4]), for C too.
 fn passed(
@@ -195,9 +200,6 @@ pub extern "C" fn jenturik_version() -> u32
     VERSION
 }
 
-// Kept: here and in the calls below the slices, the words and the numbers of a place are parameters
-// of their own, the C interface.
-
 // A fresh table; the words are written whatever they were.
 #[unsafe(no_mangle)]
 pub extern "C" fn jenturik_fresh(
@@ -213,6 +215,7 @@ pub extern "C" fn jenturik_fresh(
     ensures true_value { true ≡ is_record words.new }
     ensures changed_value { result.changed ≡ 0 }
 {
+    // Kept: `as`, here and in the load: std has no `From` of 32 bits to `usize`, and each fits.
     let made = fresh::fresh(left, right, colour, nodes as usize, slots as usize);
     *words = record_words::words_of(made.rec);
     tell(made.answer, 0)
@@ -288,9 +291,8 @@ pub extern "C" fn jenturik_in_use(
         ≡ face (asking in_use) left.now right.now colour.now words.now }
     ensures changed_value { result.changed ≡ 0 }
 {
-    let x = match formed(words) {
-        Some(x) => x,
-        None => return refused(2),
+    let Some(x) = formed(words) else {
+        return refused(2);
     };
     tell(in_use::in_use(left, right, colour, x), 0)
 }
@@ -599,17 +601,14 @@ pub extern "C" fn jenturik_collect_freed(
     ensures freed_value { result.freed
         ≡ length (face_nodes (appended_in n list.old) left.old right.old colour.old words.old) }
 {
-    let x = match formed(words) {
-        Some(x) => x,
-        None => {
-            return Freed {
-                done: 0,
-                changed: 0,
-                freed: 0,
-                code: 2,
-                detail: 0,
-            };
-        }
+    let Some(x) = formed(words) else {
+        return Freed {
+            done: 0,
+            changed: 0,
+            freed: 0,
+            code: 2,
+            detail: 0,
+        };
     };
     let all = freed::collect_freed(left, right, colour, x, n, list);
     *words = record_words::words_of(all.rec);
@@ -727,16 +726,13 @@ pub extern "C" fn jenturik_schedule(
         ≡ face_count (λ s. fitted (changes_of steps.now s)) left.old right.old colour.old
         words.old }
 {
-    let x = match formed(words) {
-        Some(x) => x,
-        None => {
-            return Done {
-                done: 0,
-                code: 2,
-                detail: 0,
-                changed: 0,
-            };
-        }
+    let Some(x) = formed(words) else {
+        return Done {
+            done: 0,
+            code: 2,
+            detail: 0,
+            changed: 0,
+        };
     };
     let ran = schedule_of(steps, left, right, colour, x);
     record_words::put(words, ran.rec);

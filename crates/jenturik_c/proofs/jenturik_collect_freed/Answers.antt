@@ -10,9 +10,9 @@ use Rattle.jenturik_c.proofs.Faces.{faces_run, faces_count, faces_nodes}
 use Rattle.jenturik_c.specs.Face.{fitted}
 use Rattle.jenturik_c.proofs.jenturik_collect_freed.Goals as goal
 
-pub returns-in-None : goal.returns-in-None
-returns-in-None c =
-    let none = c.in-None.ensures.none in
+pub returns-in_default : goal.returns-in_default
+returns-in_default c =
+    let none = c.in_default.ensures.none in
     record {
       words_value = spurned_run _ _ _ _ none _;
       stays = λ h. h;

@@ -4,9 +4,9 @@ use Rattle.jenturik_c.proofs.Faces.{spurned}
 use Rattle.jenturik_c.proofs.Kept.{asked}
 use Rattle.jenturik_c.proofs.jenturik_in_use.Goals as goal
 
-pub returns-in-None : goal.returns-in-None
-returns-in-None c = record {
-  words_value = spurned _ _ _ _ c.in-None.ensures.none _ _ c.refused.ensures.result_value;
+pub returns-in_default : goal.returns-in_default
+returns-in_default c = record {
+  words_value = spurned _ _ _ _ c.in_default.ensures.none _ _ c.refused.ensures.result_value;
   changed_value = c.refused.ensures.changed_value;
 }
 
