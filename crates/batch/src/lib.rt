@@ -27,7 +27,9 @@ pub struct Many {
 }
 
 // At most cap steps of the record's phase at once.
-// Kept: the slices and the record are arguments of their own, lent and given in public calls.
+// Kept: three slices and a record, also below: a struct of three `&mut` slices would need a clause
+// in each function that it lends the same ones afterwards, as `SameSlices` of session is, and
+// jenturik_collect_many lends them one by one.
 fn stride(left: &mut [u16], right: &mut [u16], colour: &mut [u8], x: Record, cap: usize) -> Ahead
     requires passes { Passes (state left.old right.old colour.old x) }
     requires room { Room x cap }
@@ -114,7 +116,7 @@ pub fn all_steps(
         answer = gone.answer;
         done += gone.done;
         changed += gone.changed;
-        // Kept: a refusal's code is a number of the rules (docs/RULES.md, Codes).
+        // Kept: by its number, as the definition `more` goes by `code_of`.
         if answer.code() != 0 {
             break;
         }

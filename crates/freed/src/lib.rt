@@ -16,6 +16,8 @@ use rules::{Answer, Phase, Record};
 // changed in all, how many nodes they appended, and the record.
 // Kept: a code is a number of the rules, 0 where no step was refused, as `run_in` and C have it.
 // The list is lent by C's jenturik_collect_freed, so the count of its nodes goes beside it.
+// Kept: the fields of `Ran` and no `Ran` in it, since the definition `freed` and C have them side
+// by side.
 #[derive(Clone, Copy)]
 pub struct Freed {
     pub done: usize,
@@ -75,6 +77,9 @@ fn far(colour: &[u8], x: Record, most: usize) -> usize
 }
 
 // At most n steps, of which only the last can append a node.
+// Kept: three slices and a record, also below: a struct of three `&mut` slices would need a clause
+// in each function that it lends the same ones afterwards, as `SameSlices` of session is, and
+// jenturik_collect_freed lends them one by one.
 fn turn(left: &mut [u16], right: &mut [u16], colour: &mut [u8], x: Record, n: usize) -> Many
     requires { 1 ≤ n }
     ensures { Turn (given left.old right.old colour.old x) n result.done result.changed

@@ -43,7 +43,10 @@ pub fn whiten(colour: &mut [u8])
     colour.fill(0);
 }
 
-// Writes every node, from the top. FREE leads to the first free node; to NIL if none is free.
+// Writes every node: the free ones from the top, the rest by `fill`. FREE leads to the first free
+// node; to NIL if none is free.
+// Kept: three slices: a struct of three `&mut` slices would need a clause that it lends the same
+// ones afterwards, as `SameSlices` of session is, and jenturik_fresh lends them one by one.
 fn fill(left: &mut [u16], right: &mut [u16], colour: &mut [u8], m: u16, r: u16)
     requires left_len { length left.old ≡ m }
     requires right_len { length right.old ≡ m }
@@ -61,6 +64,7 @@ fn fill(left: &mut [u16], right: &mut [u16], colour: &mut [u8], m: u16, r: u16)
 }
 
 // The last free node, or FREE.
+// Kept: FREE where the list is empty, as `fresh_last`, `last_ok` and the words of C have it.
 fn last_of(m: u16, r: u16) -> u16
     requires le_m { 3 ≤ m }
     requires r_le_most_slots { r ≤ most_slots }
@@ -78,6 +82,7 @@ pub fn fresh(left: &mut [u16], right: &mut [u16], colour: &mut [u8], m: usize, r
     if !rules::size_ok(m, r, left.len(), right.len(), colour.len()) {
         return rules::refusal(1, 0, Record::fresh(0, 0, 0, 0));
     }
+    // Kept: `as`: `size_ok` has judged both numbers, and they are proved to fit.
     let nodes = m as u16;
     let slots = r as u16;
     fill(left, right, colour, nodes, slots);

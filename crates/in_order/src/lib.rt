@@ -48,6 +48,8 @@ fn shading(colour: &mut [u8], i: usize, cap: usize) -> Shaded
     Shaded { d: cap, changed }
 }
 
+// Kept: `as`, also below: a `usize` has no `From` into a narrower type, and each value is proved to
+// fit.
 fn rooted(mut x: Record, i: usize, d: usize) -> Record
     requires d_bound { i + d < most_nodes }
     requires d_bound_2 { x.steps + d < many_steps }
@@ -74,6 +76,8 @@ fn swept(mut x: Record, from: usize, s: AppendAt) -> Record
 }
 
 // Roots i: at most cap steps, none of them that of the last root.
+// Kept: i stands beside the record, also in `appends`: `stride` of batch has just matched the
+// phase.
 pub fn roots(left: &[u16], right: &[u16], colour: &mut [u8], x: Record, i: u16, cap: usize) -> Ahead
     requires passes { Passes (state left.now right.now colour.old x) }
     requires room { Room x cap }
@@ -109,7 +113,10 @@ fn whitening(colour: &mut [u8], end: usize, from: AppendAt) -> AppendAt
 
 // One step of Append, or none where it is refused. One more may be free.
 // Kept: x and end are two parameters, since `append_some` passes another end on than it is given.
-// The table is three lent slices, as in the public calls.
+// Kept: three slices, also below: a struct of three `&mut` slices would need a clause in each
+// function that it lends the same ones afterwards, as `SameSlices` of session is.
+// Kept: beside `append_step` of collector, which makes the record anew at each step: one `collect`
+// takes 28 ns, a step in a call of 1,000 takes 1.2 ns (docs/BENCHMARKS.md, in order, M = 64).
 fn append_one(
     left: &mut [u16],
     right: &mut [u16],

@@ -18,6 +18,7 @@ use rules::{Phase, Record};
 
 // Where the marking stands: Scan i, k; nodes blackened; steps made here; how many colours stop a
 // look, at most; the node that was made gray last; and how many colours the steps changed.
+// Kept: `grayed` is a node in any case, 0 at first: its colour is tested wherever it is used.
 #[derive(Clone, Copy)]
 struct ScanAt {
     i: usize,
@@ -37,7 +38,7 @@ fn standing(mut x: Record, s: ScanAt) -> Record
     requires d_bound { x.steps + s.d < many_steps }
     ensures { result ≡ standing x s }
 {
-    x.steps = x.steps + s.d as u32;
+    x.steps += s.d as u32;
     x.blackened = s.blackened as u16;
     x.with_phase(Phase::Scan(s.i as u16, s.k as u16))
 }
@@ -164,6 +165,7 @@ fn newer(e: u16, f: u16, b: usize) -> usize
 }
 
 // How many nodes were made gray, and one of them.
+// Kept: no Option: the node goes into `ScanAt` in any case, and its colour is tested there.
 #[derive(Clone, Copy)]
 struct Grayed {
     more: usize,
@@ -244,6 +246,8 @@ impl<'a> Marker<'a> {
     }
 
     // The six steps at a gray node.
+    // Kept: beside `phase_step` of collector, which makes one step and the record anew: a `collect`
+    // takes 28 ns, a step in a call of 1,000 takes 1.2 ns (docs/BENCHMARKS.md, in order, M = 64).
     fn visit(self, colour: &mut [u8], s: ScanAt) -> ScanAt
         requires valid { Valid self.left.now self.right.now colour.old self.x self.cap s }
         requires can_visit { CanVisit self.left.now self.right.now colour.old self.x self.cap s }
@@ -276,6 +280,7 @@ impl<'a> Marker<'a> {
 
     // Follows the left edges for as long as each visit makes one node gray, from which the next is
     // found without a look at the colours between.
+    // Kept: a `while`: it goes along edges and counts no index.
     fn follow_left(self, colour: &mut [u8], s: ScanAt, from: Chain) -> Chain
         requires one_gray { OneGray colour.old self.x self.cap s }
         requires follows { Follows self.left.now self.right.now colour.old self.x self.cap s
@@ -376,7 +381,8 @@ fn most_stops(colour: &[u8], cap: usize) -> usize
 }
 
 // Scan i, k: at most cap steps, none of them the last look.
-// Kept: the slices and the record are arguments of their own, which the caller lends and gives.
+// Kept: one by one, as batch hands them on; `Marker` is made here, since its room is of this cap. i
+// and k stand beside the record: `stride` of batch has just matched the phase.
 pub fn scans(
     left: &[u16],
     right: &[u16],

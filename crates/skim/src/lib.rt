@@ -11,6 +11,7 @@ const BLOCK: usize = 64;
 const BEHIND: u8 = 64;
 
 // 1 where this colour stops a look, else 0.
+// Kept: a number, since `stops_among` sums it, as the definition `stops` does.
 pub fn stop(v: u8) -> u8
     ensures { (result ≤ 1) × (result ≡ stop v) }
 {
@@ -54,6 +55,7 @@ fn stop_at(v: u8, j: u8) -> u8
 }
 
 // Where the first colour is that stops a look; the block's size if none does.
+// Kept: `as`: a `usize` has no `From` into a narrower type, and j is below a block.
 fn first_in_block(colours: &[u8]) -> usize
     requires { length colours.now ≡ block }
     ensures { (result ≤ block) × (0 ≡ stops colours.now 0 result) }
