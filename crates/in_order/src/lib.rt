@@ -39,7 +39,7 @@ fn shading(colour: &mut [u8], i: usize, cap: usize) -> Shaded
     let mut changed = 0;
     for d in 0..cap {
         let n = i + d;
-        if 2 < colour[n] {
+        if colour[n] > table::BLACK {
             return Shaded { d, changed };
         }
         let more = table::shade_node(colour, n as u16);
@@ -103,10 +103,10 @@ fn whitening(colour: &mut [u8], end: usize, from: AppendAt) -> AppendAt
     ensures { (result.i ≤ end) × Whitens colour.old end from colour.new result }
 {
     for i in from.i..end {
-        if colour[i] != 2 {
+        if colour[i] != table::BLACK {
             return AppendAt { i, ..from };
         }
-        colour[i] = 0;
+        colour[i] = table::WHITE;
     }
     AppendAt { i: end, ..from }
 }
@@ -132,15 +132,15 @@ fn append_one(
         × AppendLeads left.old right.old colour.old x s left.new right.new colour.new t) }
 {
     let AppendAt { i, last, free } = s;
-    if colour[i] == 2 {
-        colour[i] = 0;
+    if colour[i] == table::BLACK {
+        colour[i] = table::WHITE;
         return Some(AppendAt {
             i: i + 1,
             last,
             free,
         });
     }
-    if colour[i] != 0 || i == last {
+    if colour[i] != table::WHITE || i == last {
         return None;
     }
     left[i] = 0;

@@ -10,10 +10,10 @@ pub bounds-colour-i : goal.bounds-colour-i
 bounds-colour-i c =
     let g = at _ _ _ _ _ c.requires.can_append.passes in omega arith
 
-pub returns-then-colour-i-eq2 : goal.returns-then-colour-i-eq2
-returns-then-colour-i-eq2 c = (
+pub returns-then-colour-i-eq-BLACK : goal.returns-then-colour-i-eq-BLACK
+returns-then-colour-i-eq-BLACK c = (
   omega arith,
-  whitens _ _ _ _ _ _ c.requires.can_append _ (omega arith) refl refl refl c.if-colour-i-eq2.true,
+  whitens _ _ _ _ _ _ c.requires.can_append _ (omega arith) refl refl refl c.if-colour-i-eq-BLACK.true,
 )
 
 pub bounds-colour-i-2 : goal.bounds-colour-i-2
@@ -40,6 +40,6 @@ pub returns : goal.returns
 returns c = (
   omega arith,
   appends _ _ _ _ _ _ c.requires.can_append _ (omega arith) refl refl refl
-      c.if-colour-i-ne0.false c.requires.r_bound c.if-i-last.false
+      c.if-colour-i-ne-WHITE.false c.requires.r_bound c.if-i-last.false
       c.requires.r_bound_2,
 )

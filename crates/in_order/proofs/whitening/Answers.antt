@@ -9,8 +9,8 @@ use Rattle.in_order.proofs.whitening.Goals as goal
 pub loop-i-init : goal.loop-i-init
 loop-i-init c = (refl, whitens_none _ _ _)
 
-pub returns-then-colour-i-ne2 : goal.returns-then-colour-i-ne2
-returns-then-colour-i-ne2 c = (omega arith, c.loop-i.invariant.1)
+pub returns-then-colour-i-ne-BLACK : goal.returns-then-colour-i-ne-BLACK
+returns-then-colour-i-ne-BLACK c = (omega arith, c.loop-i.invariant.1)
 
 pub loop-i-preserved : goal.loop-i-preserved
 loop-i-preserved c = (
