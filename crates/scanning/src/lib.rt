@@ -98,7 +98,7 @@ fn idle_looks(colour: &[u8], s: ScanAt, near: usize) -> usize
     if s.stops == 0 {
         return near;
     }
-    if s.stops == 1 && colour[t] == 1 {
+    if s.stops == 1 && colour[t] == table::GRAY {
         return near.min(gap(i, t, m));
     }
     skim::until_stop(colour, i, near.min(m - i))
@@ -109,7 +109,7 @@ fn can_shade(colour: &[u8], e: u16) -> bool
     ensures { result ≡ true → CanShade (length colour.now) colour.now e }
 {
     let at = usize::from(e);
-    at < colour.len() && at != 1 && colour[at] <= 2
+    at < colour.len() && at != 1 && colour[at] <= table::BLACK
 }
 
 // Whether the visit of a node with the edges e and f makes the node at e gray and no other.
@@ -118,8 +118,8 @@ fn can_follow(colour: &[u8], e: u16, f: u16) -> bool
 {
     can_shade(colour, e)
         && can_shade(colour, f)
-        && colour[usize::from(e)] == 0
-        && colour[usize::from(f)] != 0
+        && colour[usize::from(e)] == table::WHITE
+        && colour[usize::from(f)] != table::WHITE
 }
 
 // Shades a node; 1 where that makes it gray.
@@ -132,19 +132,15 @@ fn shade_and_count(colour: &mut [u8], n: u16) -> usize
         result)) }
     ensures value { result ≡ differing colour.old colour.new }
 {
-    let at = usize::from(n);
-    if colour[at] != 0 {
-        return 0;
-    }
-    colour[at] = 1;
-    1
+    usize::from(table::shade_node(colour, n))
 }
 
+// Kept: no `paint` of table: its node is of 16 bits, and that one colour changes is known here.
 fn blacken(colour: &mut [u8], i: usize)
     requires { i < length colour.old }
     ensures { colour.new ≡ set colour.old i 2 }
 {
-    colour[i] = 2;
+    colour[i] = table::BLACK;
 }
 
 // Makes node n gray and node i black.
@@ -153,8 +149,8 @@ fn pass_on(colour: &mut [u8], i: usize, n: usize)
     requires n_in_bounds { n < length colour.old }
     ensures { colour.new ≡ set (set colour.old n 1) i 2 }
 {
-    colour[n] = 1;
-    colour[i] = 2;
+    colour[n] = table::GRAY;
+    colour[i] = table::BLACK;
 }
 
 // f where it was made gray, else e.
@@ -240,7 +236,7 @@ impl<'a> Marker<'a> {
     {
         6 <= self.cap - s.d
             && s.blackened < colour.len()
-            && colour[s.i] == 1
+            && colour[s.i] == table::GRAY
             && can_shade(colour, self.left[s.i])
             && can_shade(colour, self.right[s.i])
     }
@@ -275,7 +271,7 @@ impl<'a> Marker<'a> {
         ensures { result ≡ true → OneGray colour.now self.entry.x self.entry.cap s }
     {
         let m = colour.len();
-        s.stops == 1 && s.k == m && m + 5 <= self.cap - s.d && colour[s.grayed] == 1
+        s.stops == 1 && s.k == m && m + 5 <= self.cap - s.d && colour[s.grayed] == table::GRAY
     }
 
     // Follows the left edges for as long as each visit makes one node gray, from which the next is

@@ -9,12 +9,12 @@ use Rattle.scanning.proofs.idle_looks.Goals as goal
 pub returns-then-s-eq0 : goal.returns-then-s-eq0
 returns-then-s-eq0 c = (omega arith, everywhere _ _ _ _ (omega arith) (omega arith))
 
-pub returns-then-colour-t-eq1 : goal.returns-then-colour-t-eq1
-returns-then-colour-t-eq1 c = (
+pub returns-then-colour-t-eq-GRAY : goal.returns-then-colour-t-eq-GRAY
+returns-then-colour-t-eq-GRAY c = (
   omega arith,
   cut _ _ _ _ _ (omega arith)
       (towards _ _ _ _ _ (omega arith) (omega arith) (omega arith) (omega arith)
-      (gray_stop _ c.if-colour-t-eq1.true) c.gap.ensures.0
+      (gray_stop _ c.if-colour-t-eq-GRAY.true) c.gap.ensures.0
       c.gap.ensures.1),
 )
 
