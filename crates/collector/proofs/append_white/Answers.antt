@@ -1,9 +1,6 @@
 -- Past the two refusals the three writes are those of the definition, in its order: node i and
 -- last lie in the table.
-use Prim.Native.Nat.{◌<◌}
 use mathlib.Core.Path.{refl, ap, ◌∙◌}
-use lib.ListN.{length}
-use native.Mathlib.Omega.{arith}
 use borrow.Author.Rules.{rules}
 use Rattle.base.proofs.Tests.{tests}
 use Rattle.rules.specs.Table.{with_edge, cleared}
@@ -27,20 +24,6 @@ returns-then-i-x-2 c =
       by_index = λ l. rw c.refusal_with-then-i-x-2.ensures (search (tests, rules) depth 12);
       changed_value = rw c.refusal_with-then-i-x-2.ensures;
     }
-
-pub bounds-left-from : goal.bounds-left-from
-bounds-left-from c =
-    let inside : c.args.x.last < length c.args.left.now =
-    omega (arith, c.requires) in
-    search rules
-
-pub more_free-requires : goal.more_free-requires
-more_free-requires c =
-    rw c.with_last.ensures (omega (arith, c.requires))
-
-pub after_append-requires : goal.after_append-requires
-after_append-requires c =
-    rw (c.more_free.ensures, c.with_last.ensures) (omega (arith, c.requires))
 
 pub returns : goal.returns
 unfolding append_white append with_edge cleared

@@ -1,44 +1,11 @@
 -- In each arm the phase is known, and the definition at it is the arm's call. What the call asks
 -- follows from the record's test and the phase's numbers.
-use mathlib.Core.Path.{refl, ◌∙◌}
+use mathlib.Core.Path.{◌∙◌}
 use mathlib.Core.List.{[], ◌∷◌}
-use native.Mathlib.Omega.{arith}
 use Rattle.rules.specs.Table.{edge_of}
 use Rattle.rules.specs.Collector.{phase_step}
 use Rattle.rules.proofs.Changes.{unchanged}
 use Rattle.collector.proofs.phase_step.Goals as goal
-
-pub after_roots-requires : goal.after_roots-requires
-after_roots-requires c =
-    let h = rw c.in-Roots.is at c.requires.in_range in omega arith
-
-pub shade_step-requires : goal.shade_step-requires
-shade_step-requires c =
-    let h = rw c.in-Roots.is at c.requires.in_range in omega arith
-
-pub scan_step-requires : goal.scan_step-requires
-scan_step-requires c =
-    let h = rw c.in-Scan.is at c.requires.in_range in omega arith
-
-pub shade_step-requires-in-ShadeLeft : goal.shade_step-requires-in-ShadeLeft
-shade_step-requires-in-ShadeLeft c =
-    let h = rw c.in-ShadeLeft.is at c.requires.in_range in
-    let read = h.2 refl in omega arith
-
-pub shade_step-requires-in-ShadeRight : goal.shade_step-requires-in-ShadeRight
-shade_step-requires-in-ShadeRight c =
-    let h = rw c.in-ShadeRight.is at c.requires.in_range in
-    let read = h.2 refl in omega arith
-
-pub black_step-requires : goal.black_step-requires
-black_step-requires c =
-    let h = rw c.in-Black.is at c.requires.in_range in omega arith
-
-pub append_step-requires : goal.append_step-requires
-append_step-requires c =
-    let h =
-    rw c.in-Append.is at c.requires.in_range in
-    omega arith
 
 pub returns-in-Roots : goal.returns-in-Roots
 unfolding phase_step
