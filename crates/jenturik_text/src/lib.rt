@@ -31,7 +31,8 @@ const UNUSED: usize = 28;
 
 // What a block answers: how many bytes of the output are printed, the code, and whether the run is
 // over: 0 it goes on, 1 the first line was refused, 2 the export was.
-// Kept: a struct of numbers, the C interface (include/jenturik_text.h).
+// Kept: a struct of numbers, the C interface (include/jenturik_text.h); made by `told` and no
+// `From`, since a refused block has no session.
 #[repr(C)]
 #[derive(Clone, Copy)]
 pub struct Turned {
@@ -77,6 +78,8 @@ fn entry(stage: Stage) -> usize
 
 // The session's words; the output is not among them.
 // Kept: the casts narrow by `as`: that each number fits is what `Fits` requires.
+// Kept: this and `session_of` are functions and no `TryFrom`: that words are a session's is tested
+// apart (`is_session`), and code 2 tells it.
 fn words_of(s: Session) -> [u32; WORDS]
     requires { Fits s }
     ensures value { result ≡ words_of s.stage s.run.rec s.run.at }
@@ -154,6 +157,7 @@ fn session_of(w: [u32; WORDS]) -> Session
     ensures { result ≡ session_of w }
 {
     let rec = record_words::record_of(record_part(w));
+    // Kept: `as`, here and below: std has no `From` of 32 bits to `usize`, and each word fits.
     let run = Run {
         rec,
         at: w[AT] as usize,
