@@ -70,12 +70,12 @@ fn stride_and_step(
 {
     // Kept: `as`: there is no `From<u32>` for `usize`.
     let near = b - 1 - x.steps;
-    let l = stride(left, right, colour, x, most.min(near as usize));
-    let made = collector::phase_step(left, right, colour, l.rec, l.rec.phase);
+    let ahead = stride(left, right, colour, x, most.min(near as usize));
+    let made = collector::phase_step(left, right, colour, ahead.rec, ahead.rec.phase);
     Many {
-        done: l.d,
+        done: ahead.d,
         answer: made.answer,
-        changed: l.changed + usize::from(made.changed),
+        changed: ahead.changed + usize::from(made.changed),
         rec: made.rec,
     }
 }

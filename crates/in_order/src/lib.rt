@@ -97,6 +97,7 @@ pub fn roots(left: &[u16], right: &[u16], colour: &mut [u8], x: Record, i: u16, 
 }
 
 // Black nodes become white, up to end or to a node that is not black.
+// Kept: a loop: `position` and then `fill` of that part would go over the same nodes twice.
 fn whitening(colour: &mut [u8], end: usize, from: AppendAt) -> AppendAt
     requires i_le_end { from.i ≤ end }
     requires end_in_bounds { end ≤ length colour.old }

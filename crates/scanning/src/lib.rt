@@ -218,11 +218,11 @@ impl<'a> Marker<'a> {
         ensures { ScanLeads self.entry.left.now self.entry.right.now colour.now
             self.entry.x self.entry.cap s colour.now result }
     {
-        let e = idle_looks(colour, s, (self.cap - s.d).min(s.k - 1));
+        let idle = idle_looks(colour, s, (self.cap - s.d).min(s.k - 1));
         ScanAt {
-            i: around(s.i + e, colour.len()),
-            k: s.k - e,
-            d: s.d + e,
+            i: around(s.i + idle, colour.len()),
+            k: s.k - idle,
+            d: s.d + idle,
             ..s
         }
     }

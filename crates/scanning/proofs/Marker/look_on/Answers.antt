@@ -9,8 +9,8 @@ pub overflow_sub-s : goal.overflow_sub-s
 overflow_sub-s c =
     let g = at _ _ _ _ _ c.requires.passes in omega arith
 
-pub idle_looks-e-requires : goal.idle_looks-e-requires
-idle_looks-e-requires c =
+pub idle_looks-idle-requires : goal.idle_looks-idle-requires
+idle_looks-idle-requires c =
     let g = at _ _ _ _ _ c.requires.passes in record {
       size = omega (arith, g.sizes);
       few = rw g.sizes.colours c.requires.few;
@@ -30,5 +30,5 @@ pub returns : goal.returns
 returns c =
     let g = at _ _ _ _ _ c.requires.passes in
     looks_on _ _ _ _ _ _ _ _ c.requires c.args.self.room
-    (rw g.sizes.colours at c.idle_looks-e.ensures.1) (omega arith) (omega arith)
+    (rw g.sizes.colours at c.idle_looks-idle.ensures.1) (omega arith) (omega arith)
     (rw g.sizes.colours at c.around.ensures) refl refl refl refl refl refl
