@@ -78,8 +78,8 @@ fn first_bad(lefts: &[u32], rights: &[u32], m: u32) -> Option<usize>
     requires rights_len { length rights.now ≡ m }
     ensures { result ≡ found m (first_bad m (lefts.now ∷ rights.now ∷ [])) }
 {
-    // Kept: a loop, as in `lowest_shared`: std has no lemma of what `find` promises (`FindsItem`),
-    // as it has of `position` (`IsFirst-from_position`), whose answer is a `usize`.
+    // Kept: a loop, and so in `lowest_shared`: tried, `(0..lefts.len()).find(..)`: the proof did
+    // not close by search, and std has no lemma of what `find` promises (`FindsItem`).
     for n in 0..lefts.len() {
         if bad_node(lefts, rights, m, n) {
             return Some(n);
@@ -111,8 +111,8 @@ fn narrow(given: &[u32], edges: &mut [u16])
     requires below { Below most_nodes given.now }
     ensures { take (length given.now) edges.new ≡ given.now }
 {
-    // Kept: by `enumerate`: in a loop over `edges.iter_mut().zip(given)` the invariant has no
-    // `edges` to speak of, and what is known here is of its first n.
+    // Kept: by `enumerate`: in a loop over `edges.iter_mut().zip(given)` the invariant, which is of
+    // the first n of `edges`, could not name them as they are by then.
     for (n, edge) in given.iter().enumerate() {
         edges[n] = *edge as u16;
     }
