@@ -14,8 +14,8 @@ ghost use Rattle.rules.specs.Lent.{given};
 use rules::{Made, Ran, Record};
 use text::Said;
 
-// Kept: the code is a number of the rules, 0 where the line is done, as its line of output prints it
-// (`said` in crate text).
+// Kept: the code is a number of the rules, 0 where the line is done, as its line of output prints
+// it (`said` in crate text).
 
 // What a line prints, and the record that it leaves.
 #[derive(Clone, Copy)]

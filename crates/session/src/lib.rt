@@ -51,7 +51,8 @@ impl Stage {
 
 // The buffers that a run is lent: the program's own table, the lists of an export's edges, the line
 // at hand and the output.
-// Kept: left and right edges are two lists each, as C lends them (`jenturik_load`, `jenturik_turn`).
+// Kept: left and right edges are two lists each, as C lends them (`jenturik_load`,
+// `jenturik_turn`).
 // Kept: SameSlices is a clause of each function that is lent these: it compares before and after,
 // which no field or invariant can.
 #[derive(Drop)]
