@@ -266,7 +266,7 @@ fn record_ok(w: [u32; WORDS]) -> bool
 // Codes 1 and 2 of words, for slices of these lengths; 0 where neither is given. No record is made.
 // Kept: a number and no Result: the codes are the rules' numbers, and the clause is `judged` [C 4].
 // Kept: this and the three above have the tests of rules once more, on words: tried as
-// `rules::check` of the record that the words are: jenturik_link and jenturik_shade take 7 % longer,
+// `rules::check` of the record that words are: jenturik_link and jenturik_shade take 7 % longer,
 // 25.4 ns each and not 23.6, and jenturik_free_count 14 %, 18.5 ns and not 16.2.
 pub fn judge(lefts: usize, rights: usize, colours: usize, w: [u32; WORDS]) -> u8
     ensures { result ≡ judged (lefts ∷ rights ∷ []) colours w }
