@@ -62,12 +62,3 @@ pub after-requires-else-a-eq-COLLECT : goal.after-requires-else-a-eq-COLLECT
 after-requires-else-a-eq-COLLECT c =
     let few = at_most_two _ _ _ c.step_passed.ensures.changed_value in
     omega (arith, few, c.requires)
-
-pub returns-else-a-eq-COLLECT : goal.returns-else-a-eq-COLLECT
-returns-else-a-eq-COLLECT c = (
-  c.step_passed.result,
-  (
-    c.step_passed.ensures.colour_value,
-    (c.step_passed.ensures.changed_value, c.after-else-a-eq-COLLECT.ensures),
-  ),
-)
