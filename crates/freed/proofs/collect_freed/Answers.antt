@@ -26,10 +26,6 @@ slice_bounds-turns-end-2 c =
     let in_list = room_in _ _ (c.from-room.ensures ∙ c.room_of.ensures) in
     let z = length-take c.from-room.result c.args.list.now in omega arith
 
-pub turns-requires : goal.turns-requires
-turns-requires c =
-    let z = length-take c.from-room.result c.args.list.now in omega arith
-
 pub returns : goal.returns
 returns c =
     let passes = sym c.if-code-ne0.false ∙ c.check-code.ensures in

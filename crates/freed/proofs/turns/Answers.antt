@@ -1,39 +1,10 @@
 -- `turns` meets its contract: before each turn the fold from the start comes to the fold from here.
 -- A turn goes on by its steps, and ends the run where its last one is refused.
-use mathlib.Core.Path.{refl, sym, ◌∙◌}
+use mathlib.Core.Path.{sym, ◌∙◌}
 use native.Mathlib.Omega.{arith}
-use native.Mathlib.Nat.{sub-zero}
 use Rattle.freed.proofs.Gathers.{goes_on, ends_refused, ends_done, ends_full}
 use Rattle.freed.proofs.Notes.{within, still, room_left, room_used}
 use Rattle.freed.proofs.turns.Goals as goal
-
-pub loop-done-init : goal.loop-done-init
-loop-done-init c = (
-  refl,
-  refl,
-  refl,
-  refl,
-  omega arith,
-  omega arith,
-  omega arith,
-  rw (sub-zero, sub-zero),
-  refl,
-)
-
-pub overflow_add-done : goal.overflow_add-done
-overflow_add-done c =
-    omega (arith, c.ranges.n, c.loop-done.invariant.4, c.turn-gone.ensures.most)
-
-pub overflow_add-changed : goal.overflow_add-changed
-overflow_add-changed c =
-    omega (
-      arith,
-      c.ranges.n,
-      c.loop-done.invariant.4,
-      c.loop-done.invariant.6,
-      c.turn-gone.ensures.most,
-      c.turn-gone.ensures.few,
-    )
 
 pub returns-then-code-ne0 : goal.returns-then-code-ne0
 returns-then-code-ne0 c =
@@ -46,24 +17,6 @@ returns-then-code-ne0 c =
           ∙ sym inv.7);
       list_value_2 = inv.8;
     }
-
-pub note-count-requires : goal.note-count-requires
-note-count-requires c =
-    let inv = c.loop-done.invariant in
-    let lt = room_left _ _ _ _ c.from.ensures c.if-from-list.true inv.3 in record {
-      count_in_bounds = omega (arith, lt, inv.3);
-      count_bound = omega (arith, lt, c.requires);
-    }
-
-pub loop-done-smaller : goal.loop-done-smaller
-loop-done-smaller c =
-    let done = sym c.code-code.ensures ∙ c.if-code-ne0.false in
-    omega (
-      arith,
-      c.loop-done-test.true,
-      c.turn-gone.ensures.most,
-      c.turn-gone.ensures.some done,
-    )
 
 pub loop-done-preserved : goal.loop-done-preserved
 loop-done-preserved c =
