@@ -1,6 +1,6 @@
 -- For each kind, the call that is made has the definition's step of that kind by its own
 -- contract; a kind above 4 is refused as the definition says.
-use Rattle.calls.proofs.Named.{kind_take, kind_link, kind_shade, kind_collect, kind_look}
+use Rattle.calls.proofs.Named.{kind_take, kind_shade, kind_collect, kind_look}
 use Rattle.rules.proofs.Changes.{told_none}
 use Rattle.rules.proofs.Checked.{good, inside}
 use Rattle.calls.proofs.Named.{kind_none, named, collected, none_read}
@@ -11,12 +11,6 @@ pub returns-in-0 : goal.returns-in-0
 returns-in-0 c =
     named _ _ _ _ _ c.take_passed.ensures
     (kind_take _ _ _ c.source.ensures c.in-0.is)
-
-pub returns-in-1 : goal.returns-in-1
-returns-in-1 c =
-    named _ _ _ _ _ c.link_passed.ensures
-    (kind_link _ _ _ _ c.source-in-1.ensures
-    c.target.ensures c.in-1.is)
 
 pub returns-in-2 : goal.returns-in-2
 returns-in-2 c =
