@@ -13,7 +13,8 @@ use Rattle.rules.specs.declared.Answer.TheVariants.{Shaded, Whitened, Appended}
 use Rattle.rules.specs.Table.{State, state, did, with_edge, cleared, shade_in}
 use Rattle.rules.specs.Records.{with_last, more_free, moved, after_append}
 use Rattle.rules.specs.Check.{free_ok, bound}
-use Rattle.rules.specs.Collector.{shade_step, after_roots, append, append_white, append_step, phase_step}
+use Rattle.rules.specs.Collector.{shade_step, after_roots, append, append_white, append_step}
+use Rattle.rules.specs.Collector.{phase_step}
 use Rattle.rules.specs.Changes.{differing}
 use Rattle.rules.proofs.Changes.{unchanged, one_whitened}
 use Rattle.rules.proofs.Checked.{good}

@@ -87,7 +87,8 @@ module _ (l r c : List ℕ) (x : Record) (i k : ℕ) (p : Passes (state l r c x)
 
   pub visits : get_or c i 0 ≡ 1 → CanShade x.m c (get_or l i 0) → CanShade x.m c (get_or r i 0)
       → x.steps + 6 < bound 2 x.m x.r → x.blackened < x.m
-      → Leads (state l r c x) 6 (differing c (shade_in (shade_in c (get_or l i 0)) (get_or r i 0)) + 1)
+      → Leads (state l r c x) 6
+      (differing c (shade_in (shade_in c (get_or l i 0)) (get_or r i 0)) + 1)
       (state l r (set (shade_in (shade_in c (get_or l i 0)) (get_or r i 0)) i 2) (visited x i))
   unfolding phase_step black_step edge_of
   visits gray left right room dark =

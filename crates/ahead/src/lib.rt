@@ -1,8 +1,6 @@
 // Many collector steps at once: the laws by which a run of steps is one stride are in proofs/.
 #![tactic(auto)]
 
-ghost use Rattle.std.specs.Prelude.{◌≤◌};
-
 use rules::Record;
 
 // Steps made, how many colours they changed in all, and the record after them.
@@ -11,13 +9,4 @@ pub struct Ahead {
     pub d: usize,
     pub changed: usize,
     pub rec: Record,
-}
-
-pub fn least(a: usize, b: usize) -> usize
-    ensures { (result ≤ a) × (result ≤ b) }
-{
-    if a < b {
-        return a;
-    }
-    b
 }

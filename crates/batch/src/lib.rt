@@ -27,6 +27,9 @@ pub struct Many {
 }
 
 // At most cap steps of the record's phase at once.
+// Kept: three slices and a record, also below: a struct of three `&mut` slices would need a clause
+// in each function that it lends the same ones afterwards, as `SameSlices` of session is, and
+// jenturik_collect_many lends them one by one.
 fn stride(left: &mut [u16], right: &mut [u16], colour: &mut [u8], x: Record, cap: usize) -> Ahead
     requires passes { Passes (state left.old right.old colour.old x) }
     requires room { Room x cap }
@@ -34,23 +37,19 @@ fn stride(left: &mut [u16], right: &mut [u16], colour: &mut [u8], x: Record, cap
         result.changed
         (state left.new right.new colour.new result.rec) }
 {
+    let none = Ahead {
+        d: 0,
+        changed: 0,
+        rec: x,
+    };
     if cap == 0 {
-        return Ahead {
-            d: 0,
-            changed: 0,
-            rec: x,
-        };
+        return none;
     }
-    let phase = x.phase;
-    match phase {
+    match x.phase {
         Phase::Roots(i) => in_order::roots(left, right, colour, x, i, cap),
         Phase::Scan(i, k) => scanning::scans(left, right, colour, x, i, k, cap),
         Phase::Append(i) => in_order::appends(left, right, colour, x, i, cap),
-        _ => Ahead {
-            d: 0,
-            changed: 0,
-            rec: x,
-        },
+        _ => none,
     }
 }
 
@@ -69,19 +68,15 @@ fn stride_and_step(
         result.done
         result.changed result.answer (state left.new right.new colour.new result.rec) }
 {
+    // Kept: `as`: there is no `From<u32>` for `usize`.
     let near = b - 1 - x.steps;
-    let l = stride(left, right, colour, x, ahead::least(most, near as usize));
-    let y = l.rec;
-    let phase = y.phase;
-    let made = collector::phase_step(left, right, colour, y, phase);
-    let answer = made.answer;
-    let rec = made.rec;
-    let last = made.changed;
+    let ahead = stride(left, right, colour, x, most.min(near as usize));
+    let made = collector::phase_step(left, right, colour, ahead.rec, ahead.rec.phase);
     Many {
-        done: l.d,
-        answer,
-        changed: l.changed + last as usize,
-        rec,
+        done: ahead.d,
+        answer: made.answer,
+        changed: ahead.changed + usize::from(made.changed),
+        rec: made.rec,
     }
 }
 
@@ -90,10 +85,7 @@ fn stride_and_step(
 fn ended(done: usize, n: usize, a: Answer) -> Answer
     ensures { (done < n → result ≡ refused 2 0) × (n ≤ done → result ≡ a) }
 {
-    if done < n {
-        return Answer::refused(2, 0);
-    }
-    a
+    if done < n { Answer::refused(2, 0) } else { a }
 }
 
 // n steps, from a record that passes.
@@ -117,28 +109,21 @@ pub fn all_steps(
     let mut answer = Answer::Named(0);
     let mut done = 0;
     let mut changed = 0;
+    // Kept: a `while`: a turn makes as many steps as its stride has, so no range counts them.
     while done < n {
         let gone = stride_and_step(left, right, colour, rec, b, n - done - 1);
         rec = gone.rec;
         answer = gone.answer;
         done += gone.done;
         changed += gone.changed;
+        // Kept: by its number, as the definition `more` goes by `code_of`.
         if answer.code() != 0 {
-            return Many {
-                done,
-                answer,
-                changed,
-                rec,
-            };
+            break;
         }
         done += 1;
         if !rules::in_limits(rec, b) {
-            return Many {
-                done,
-                answer: ended(done, n, answer),
-                changed,
-                rec,
-            };
+            answer = ended(done, n, answer);
+            break;
         }
     }
     Many {
@@ -164,6 +149,7 @@ pub fn collect_many(
         ≡ changes_all (collects n) (given left.old right.old colour.old x) }
 {
     let code = rules::check(left.len(), right.len(), colour.len(), x);
+    // Kept: a number, as `check` of rules answers it (docs/RULES.md, Codes).
     if code != 0 {
         return Many {
             done: 0,

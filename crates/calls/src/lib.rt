@@ -11,6 +11,20 @@ ghost use Rattle.rules.specs.Lent.{given, leaves};
 
 use rules::{Made, Place, Record, Step};
 
+// [Steps 2] The kinds of steps.
+// Kept: a kind is a number, as in a schedule's words for C, and any other number is code 10.
+const TAKE: u32 = 0;
+
+const LINK: u32 = 1;
+
+const SHADE: u32 = 2;
+
+pub const COLLECT: u32 = 3;
+
+const LOOK: u32 = 4;
+
+// [Steps 1] The place that a step names first, and the target of a link.
+// Kept: two functions and no `From`, since a step holds two places.
 fn source(a: Step) -> Place
     ensures { result ≡ source a }
 {
@@ -32,17 +46,19 @@ fn target(a: Step) -> Place
 }
 
 // The code of what is no step: 1, 2, else 10.
+// Kept: a number, as `rules::check` answers it, and as the definition `unreadable` is one.
 pub fn unreadable(lefts: usize, rights: usize, colours: usize, x: Record) -> u8
     ensures { result ≡ unreadable lefts rights colours x }
 {
     let code = rules::check(lefts, rights, colours, x);
-    if code != 0 {
-        return code;
-    }
-    10
+    if code == 0 { 10 } else { code }
 }
 
-// One step: 0 take, 1 link, 2 shade, 3 collect, 4 look; where neither code 1 nor 2 is given.
+// Kept: slices and record go one by one: a struct of `&mut` slices would need a clause in each
+// function that it lends the same ones afterwards, as `SameSlices` of session is. That they pass is
+// a clause, since a table and a record from C may be anything.
+
+// One step, by its kind, where neither code 1 nor 2 is given.
 pub fn step_passed(
     left: &mut [u16],
     right: &mut [u16],
@@ -55,24 +71,14 @@ pub fn step_passed(
         ≡ step a (given left.old right.old colour.old x) }
     ensures changed_value { result.changed ≡ changes a (given left.old right.old colour.old x) }
 {
-    let kind = a.kind;
-    if kind == 0 {
-        return take::take_passed(left, right, colour, x, source(a), a.side);
+    match a.kind {
+        TAKE => take::take_passed(left, right, colour, x, source(a), a.side),
+        LINK => editor::link_passed(left, right, colour, x, source(a), a.side, target(a)),
+        SHADE => editor::shade_passed(left, right, colour, x),
+        COLLECT => collector::phase_step(left, right, colour, x, x.phase),
+        LOOK => editor::look_passed(left, right, colour, x, source(a)),
+        _ => rules::refusal(10, 0, x),
     }
-    if kind == 1 {
-        return editor::link_passed(left, right, colour, x, source(a), a.side, target(a));
-    }
-    if kind == 2 {
-        return editor::shade_passed(left, right, colour, x);
-    }
-    if kind == 3 {
-        let phase = x.phase;
-        return collector::phase_step(left, right, colour, x, phase);
-    }
-    if kind == 4 {
-        return editor::look_passed(left, right, colour, x, source(a));
-    }
-    rules::refusal(10, 0, x)
 }
 
 // One step.

@@ -1,8 +1,8 @@
 // The collector: one call does one step, over three lent slices and a record that goes by value.
 #![tactic(auto)]
 
-ghost use Rattle.std.specs.Prelude.{◌≡◌, List, ℕ, ◌+◌, ◌<◌, ◌≤◌, length, set};
-ghost use Rattle.rules.specs.Table.{most_slots, table, state, handed, outcome, black};
+ghost use Rattle.std.specs.Prelude.{◌≡◌, List, ℕ, ◌+◌, ◌<◌, ◌≤◌, length};
+ghost use Rattle.rules.specs.Table.{most_slots, table, state, handed, outcome};
 ghost use Rattle.rules.specs.Collector.{shade_step, after_roots, scan_step, read_step, black_step};
 ghost use Rattle.rules.specs.Collector.{append_white, append_step, phase_step};
 ghost use Rattle.rules.specs.Steps.{step, collecting};
@@ -10,8 +10,13 @@ ghost use Rattle.rules.specs.Changes.{differing, changes};
 ghost use Rattle.rules.specs.Facts.{many_steps, Checked, InRange};
 ghost use Rattle.rules.specs.declared.Phase.TheVariants.{Scan};
 ghost use Rattle.rules.specs.Lent.{given, leaves};
+ghost use Rattle.rules.specs.declared.Answer.TheVariants.{Looked};
 
 use rules::{Answer, Made, Phase, Record};
+
+// Kept: slices and record go one by one: a struct of `&mut` slices would need a clause in each
+// function that it lends the same ones afterwards, as `SameSlices` of session is. That they pass is
+// a clause, since a table and a record from C may be anything.
 
 // Shades node n, and goes on to a phase.
 fn shade_step(colour: &mut [u8], x: Record, n: u16, then: Phase) -> Made
@@ -21,8 +26,7 @@ fn shade_step(colour: &mut [u8], x: Record, n: u16, then: Phase) -> Made
         ≡ shade_step (table es colour.old x) n then }
     ensures changed_value { result.changed ≡ differing colour.old colour.new }
 {
-    let at = n as usize;
-    if 2 < colour[at] {
+    if colour[usize::from(n)] > table::BLACK {
         return rules::refusal(14, n, x);
     }
     let changed = table::shade_node(colour, n);
@@ -40,10 +44,21 @@ fn after_roots(m: u16, r: u16, i: u16) -> Phase
     ensures { result ≡ after_roots m r i }
 {
     if i == r + 1 {
-        return Phase::Scan(0, m);
+        Phase::Scan(0, m)
+    } else {
+        Phase::Roots(i + 1)
     }
-    let next = i + 1;
-    Phase::Roots(next)
+}
+
+// Node i was looked at, or an edge of it: no colour is changed.
+fn looked(i: u16, rec: Record) -> Made
+    ensures { result ≡ (record { answer = Looked i; changed = 0; rec = rec }) }
+{
+    Made {
+        answer: Answer::Looked(i),
+        changed: 0,
+        rec,
+    }
 }
 
 // Scan i, k: Left i where node i is gray, else on to the next node.
@@ -54,28 +69,15 @@ fn scan_step(colour: &[u8], x: Record, i: u16, k: u16) -> Made
         ≡ scan_step (table es colour.now x) i k }
     ensures changed_value { result.changed ≡ 0 }
 {
-    let at = i as usize;
-    if 2 < colour[at] {
-        return rules::refusal(14, i, x);
-    }
-    if colour[at] == 1 {
-        return Made {
-            answer: Answer::Looked(i),
-            changed: 0,
-            rec: x.moved(Phase::Left(i)),
-        };
-    }
-    if k == 1 {
-        return Made {
-            answer: Answer::Looked(i),
-            changed: 0,
-            rec: x.marked(),
-        };
-    }
-    Made {
-        answer: Answer::Looked(i),
-        changed: 0,
-        rec: x.moved(Phase::Scan(x.next(i), k - 1)),
+    let seen = colour[usize::from(i)];
+    if seen > table::BLACK {
+        rules::refusal(14, i, x)
+    } else if seen == table::GRAY {
+        looked(i, x.moved(Phase::Left(i)))
+    } else if k == 1 {
+        looked(i, x.marked())
+    } else {
+        looked(i, x.moved(Phase::Scan(x.next(i), k - 1)))
     }
 }
 
@@ -87,27 +89,10 @@ fn read_step(x: Record, i: u16, side: u8, e: u16, then: Phase) -> Made
     ensures changed_value { result.changed ≡ 0 }
 {
     if table::bad_edge(x.m, e) {
-        return rules::refusal_with(7, i, side, x);
+        rules::refusal_with(7, i, side, x)
+    } else {
+        looked(i, x.moved(then))
     }
-    Made {
-        answer: Answer::Looked(i),
-        changed: 0,
-        rec: x.moved(then),
-    }
-}
-
-// [Changes 1] Makes node n black, whatever its colour: 1 where it was not, else 0.
-fn blacken(colour: &mut [u8], n: u16) -> u8
-    requires { n < length colour.old }
-    ensures colour_value { colour.new ≡ set colour.old n black }
-    ensures value { result ≡ differing colour.old colour.new }
-{
-    let at = n as usize;
-    if colour[at] == 2 {
-        return 0;
-    }
-    colour[at] = 2;
-    1
 }
 
 // Black i: node i is black, and the scan begins again behind it.
@@ -118,7 +103,7 @@ fn black_step(colour: &mut [u8], x: Record, i: u16) -> Made
         ≡ black_step (table es colour.old x) i }
     ensures changed_value { result.changed ≡ differing colour.old colour.new }
 {
-    let changed = blacken(colour, i);
+    let changed = table::paint(colour, i, table::BLACK);
     Made {
         answer: Answer::Blackened(i),
         changed,
@@ -134,17 +119,16 @@ fn append_white(left: &mut [u16], right: &mut [u16], x: Record, i: u16) -> Made
         ≡ append_white (state left.old right.old c x) i }
     ensures changed_value { result.changed ≡ 0 }
 {
-    let at = i as usize;
-    let end = x.last as usize;
     if i <= x.r + 1 {
         return rules::refusal_with(15, i, rules::WHITE_ROOT, x);
     }
     if i == x.last {
         return rules::refusal_with(15, i, rules::WHITE_LAST, x);
     }
+    let at = usize::from(i);
     left[at] = 0;
     right[at] = 0;
-    left[end] = i;
+    left[usize::from(x.last)] = i;
     Made {
         answer: Answer::Appended(i),
         changed: 0,
@@ -160,25 +144,21 @@ fn append_step(left: &mut [u16], right: &mut [u16], colour: &mut [u8], x: Record
         ≡ append_step (given left.old right.old colour.old x) i }
     ensures changed_value { result.changed ≡ differing colour.old colour.new }
 {
-    let at = i as usize;
-    if colour[at] == 2 {
-        colour[at] = 0;
-        return Made {
+    match colour[usize::from(i)] {
+        table::BLACK => Made {
             answer: Answer::Whitened(i),
-            changed: 1,
+            changed: table::paint(colour, i, table::WHITE),
             rec: x.after_append(i),
-        };
+        },
+        table::WHITE => append_white(left, right, x, i),
+        table::GRAY => rules::refusal_with(15, i, rules::GRAY_NODE, x),
+        _ => rules::refusal(14, i, x),
     }
-    if colour[at] == 0 {
-        return append_white(left, right, x, i);
-    }
-    if 2 < colour[at] {
-        return rules::refusal(14, i, x);
-    }
-    rules::refusal_with(15, i, rules::GRAY_NODE, x)
 }
 
 // The step of a phase, where neither code 1 nor 2 is given.
+// Kept: the phase stands beside the record, since `any_phase` of schedule and of
+// jenturik_c hands over one that it made anew.
 pub fn phase_step(
     left: &mut [u16],
     right: &mut [u16],
@@ -196,12 +176,12 @@ pub fn phase_step(
         Phase::Roots(i) => shade_step(colour, x, i, after_roots(x.m, x.r, i)),
         Phase::Scan(i, k) => scan_step(colour, x, i, k),
         Phase::Left(i) => {
-            let e = table::edge(left, right, 0, i);
+            let e = left[usize::from(i)];
             read_step(x, i, rules::LEFT, e, Phase::ShadeLeft(i, e))
         }
         Phase::ShadeLeft(i, n) => shade_step(colour, x, n, Phase::Right(i)),
         Phase::Right(i) => {
-            let e = table::edge(left, right, 1, i);
+            let e = right[usize::from(i)];
             read_step(x, i, rules::RIGHT, e, Phase::ShadeRight(i, e))
         }
         Phase::ShadeRight(i, n) => shade_step(colour, x, n, Phase::Black(i)),
@@ -222,6 +202,5 @@ pub fn collect(left: &mut [u16], right: &mut [u16], colour: &mut [u8], x: Record
     if code != 0 {
         return rules::refusal(code, 0, x);
     }
-    let phase = x.phase;
-    phase_step(left, right, colour, x, phase)
+    phase_step(left, right, colour, x, x.phase)
 }

@@ -11,8 +11,10 @@ ghost use Rattle.rules.specs.Facts.{Checked, Owable};
 ghost use Rattle.rules.specs.declared.Record.{Record};
 ghost use Rattle.rules.specs.Lent.{given};
 
-use places::Source;
-use rules::{Answer, Made, Owed, Place, Record, Walk};
+use rules::{Answer, Made, Place, Record};
+
+// Kept: the table is three lent slices, each `&mut` only where the call writes it, and the record
+// goes beside them by value: `look`, `link` and `shade` lend different ones, so no struct has them.
 
 // Look, where neither code 1 nor 2 is given.
 pub fn look_passed(left: &[u16], right: &[u16], colour: &[u8], x: Record, p: Place) -> Made
@@ -26,14 +28,13 @@ pub fn look_passed(left: &[u16], right: &[u16], colour: &[u8], x: Record, p: Pla
     if code != 0 {
         return rules::refusal(code, 0, x);
     }
-    let found = places::walk(left, right, x.m, p);
-    match found {
-        Walk::At(n) => Made {
+    match places::walk(left, right, x.m, p) {
+        Ok(n) => Made {
             answer: Answer::Named(n),
             changed: 0,
             rec: x,
         },
-        Walk::Damaged(n, turn) => rules::refusal_with(7, n, turn, x),
+        Err(d) => rules::refusal_with(7, d.node, d.side, x),
     }
 }
 
@@ -61,9 +62,8 @@ fn link_to(left: &mut [u16], right: &mut [u16], x: Record, side: u32, q: Place, 
         ≡ link_to (state left.old right.old c x) side q n }
     ensures changed_value { result.changed ≡ 0 }
 {
-    let to = places::walk(left, right, x.m, q);
-    match to {
-        Walk::At(t) => {
+    match places::walk(left, right, x.m, q) {
+        Ok(t) => {
             table::set_edge(left, right, side, n, t);
             Made {
                 answer: Answer::Linked(t),
@@ -71,7 +71,7 @@ fn link_to(left: &mut [u16], right: &mut [u16], x: Record, side: u32, q: Place, 
                 rec: x.owing(t),
             }
         }
-        Walk::Damaged(t, turn) => rules::refusal_with(7, t, turn, x),
+        Err(bad) => rules::refusal_with(7, bad.node, bad.side, x),
     }
 }
 
@@ -86,10 +86,9 @@ fn link_from(left: &mut [u16], right: &mut [u16], x: Record, p: Place, side: u32
         (link_to (state left.old right.old c x) side q) }
     ensures changed_value { result.changed ≡ 0 }
 {
-    let from = places::depart(left, right, x.m, p);
-    match from {
-        Source::Found(n) => link_to(left, right, x, side, q, n),
-        Source::Missing(code, n, detail) => rules::refusal_with(code, n, detail, x),
+    match places::depart(left, right, x.m, p) {
+        Ok(n) => link_to(left, right, x, side, q, n),
+        Err(why) => rules::refusal_with(why.code, why.node, why.detail, x),
     }
 }
 
@@ -140,17 +139,16 @@ pub fn link(
 }
 
 // Shades the node owed; refused 6 where nothing is.
-fn pay(colour: &mut [u8], x: Record, owed: Owed) -> Made
-    requires { Owable (length colour.old) owed }
+fn pay(colour: &mut [u8], x: Record) -> Made
+    requires { Owable (length colour.old) x.owed }
     ensures by_index { (es : List (List ℕ)) → handed result es colour.new
-        ≡ pay (table es colour.old x) owed }
+        ≡ pay (table es colour.old x) x.owed }
     ensures changed_value { result.changed ≡ differing colour.old colour.new }
 {
-    match owed {
-        Owed::Nothing => rules::refusal(6, 0, x),
-        Owed::Node(n) => {
-            let at = n as usize;
-            if 2 < colour[at] {
+    match x.owed {
+        None => rules::refusal(6, 0, x),
+        Some(n) => {
+            if colour[usize::from(n)] > table::BLACK {
                 return rules::refusal(14, n, x);
             }
             let changed = table::shade_node(colour, n);
@@ -171,8 +169,7 @@ pub fn shade_passed(left: &[u16], right: &[u16], colour: &mut [u8], x: Record) -
     ensures changed_value { result.changed
         ≡ changes shading (given left.now right.now colour.old x) }
 {
-    let owed = x.owed;
-    pay(colour, x, owed)
+    pay(colour, x)
 }
 
 // Shades the node owed, and nothing is owed afterwards.

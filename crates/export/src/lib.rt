@@ -1,26 +1,25 @@
 // The lines of an export: their edges are kept in two lists, and after the last one Load answers.
 #![tactic(auto)]
 
-ghost use Rattle.std.specs.Prelude.{◌≡◌, List, true, ℕ, ◌+◌, ◌<◌, set, take, ltb, eqb};
-ghost use Rattle.base.specs.Choice.{pick};
+ghost use Rattle.std.specs.Prelude.{◌≡◌, List, true, ℕ, ◌+◌, ◌<◌, set, take, ltb};
 ghost use Rattle.rules.specs.Table.{state};
+ghost use Rattle.rules.specs.Lent.{given};
 ghost use Rattle.text.specs.Grammar.{is_export, entry};
 ghost use Rattle.lines.specs.Lines.{loaded};
 ghost use Rattle.session.specs.Feeding.{standing, stand, stopped, filled, noting};
-ghost use Rattle.export.specs.Replaces.{Replaces};
-ghost use Rattle.rules.specs.Lent.{given};
+ghost use Rattle.session.specs.Replaces.{Replaces};
 
 use lines::Told;
 use rules::Record;
 use session::{Run, Session, Stage};
-use text::Listed;
+use text::Edges;
 
 // Whether the first at bytes of the line begin an export.
 pub fn is_export(line: &[u8], at: usize) -> bool
     ensures { result ≡ is_export (take at line.now) }
 {
-    let end = session::least(at, line.len());
-    text::is_export(&line[0..end])
+    let end = at.min(line.len());
+    text::is_export(&line[..end])
 }
 
 // The export ends the run.
@@ -29,13 +28,14 @@ pub fn stop(out: &mut [u8], g: Run, m: usize) -> Session
         ≡ stopped m (standing (Stage.Serving m) g l r c ls rs line out.old) }
 {
     let used = text::say(out, g.used, 10, 0);
-    let rec = g.rec;
-    let run = Run { rec, at: 0, used };
-    let stage = Stage::Stopped(m);
-    Session { stage, run }
+    Session {
+        stage: Stage::Stopped(m),
+        run: Run { at: 0, used, ..g },
+    }
 }
 
 // Load of the first n edges of the lists, in the first m entries of the tables.
+// Kept: slices and lengths one by one: their parts are made here.
 fn load_part(
     left: &mut [u16],
     right: &mut [u16],
@@ -50,29 +50,19 @@ fn load_part(
         (given left.old right.old colour.old x) result.code result.node
         (state left.new right.new colour.new result.rec) }
 {
-    let a = session::least(m, left.len());
-    let b = session::least(m, right.len());
-    let c = session::least(m, colour.len());
-    let d = session::least(n, lefts.len());
-    let e = session::least(n, rights.len());
+    let a = m.min(left.len());
+    let b = m.min(right.len());
+    let c = m.min(colour.len());
+    let d = n.min(lefts.len());
+    let e = n.min(rights.len());
     lines::load(
-        &lefts[0..d],
-        &rights[0..e],
-        &mut left[0..a],
-        &mut right[0..b],
-        &mut colour[0..c],
+        &lefts[..d],
+        &rights[..e],
+        &mut left[..a],
+        &mut right[..b],
+        &mut colour[..c],
         x,
     )
-}
-
-// Where Load's answer leads: a refusal ends the run.
-fn after_load(code: u8, m: usize) -> Stage
-    ensures { result ≡ pick (eqb code 0) (Stage.Serving m) (Stage.Stopped m) }
-{
-    if code != 0 {
-        return Stage::Stopped(m);
-    }
-    Stage::Serving(m)
 }
 
 // All lines of an export are read: Load answers, and its table is served unless it is refused.
@@ -91,16 +81,21 @@ fn fill(
         ≡ filled m (standing (Stage.Serving m) g left.old right.old colour.old lefts.now
         rights.now line out.old) }
 {
-    let x = g.rec;
-    let n = x.m;
-    let answer = load_part(left, right, colour, lefts, rights, x, m, n as usize);
-    let used = text::say(out, g.used, answer.code, answer.node);
-    let rec = answer.rec;
-    let run = Run { rec, at: 0, used };
-    let stage = after_load(answer.code, m);
-    Session { stage, run }
+    let n = usize::from(g.rec.m);
+    let told = load_part(left, right, colour, lefts, rights, g.rec, m, n);
+    let used = text::say(out, g.used, told.code, told.node);
+    Session {
+        stage: Stage::after(told.code, Stage::Serving(m), Stage::Stopped(m)),
+        run: Run {
+            rec: told.rec,
+            at: 0,
+            used,
+        },
+    }
 }
 
+// Kept: tried, `list.get_mut(n)`: the proof does not close, since nothing says that the list stays
+// where it answers None.
 fn keep(list: &mut [u32], n: usize, e: u32)
     ensures { list.new ≡ set list.old n e }
 {
@@ -110,36 +105,33 @@ fn keep(list: &mut [u32], n: usize, e: u32)
 }
 
 // Line n of an export has these edges.
-fn note(lefts: &mut [u32], rights: &mut [u32], n: usize, l: u32, r: u32)
-    ensures { (lefts.new ≡ set lefts.old n l) × (rights.new ≡ set rights.old n r) }
+fn note(lefts: &mut [u32], rights: &mut [u32], n: usize, edges: Edges)
+    ensures left { lefts.new ≡ set lefts.old n edges.left }
+    ensures right { rights.new ≡ set rights.old n edges.right }
 {
-    keep(lefts, n, l);
-    keep(rights, n, r);
+    keep(lefts, n, edges.left);
+    keep(rights, n, edges.right);
 }
 
 // Whether more lines follow line n of an export of m.
 fn more(m: u16, n: usize) -> bool
-    ensures { (result ≡ ltb (n + 1) m) × (result ≡ true → n < 65535) }
+    ensures value { result ≡ ltb (n + 1) m }
+    ensures small { result ≡ true → n < 65535 }
 {
-    let all = m as usize;
-    if all <= n {
-        return false;
-    }
-    if all - n <= 1 {
-        return false;
-    }
-    true
+    usize::from(m).saturating_sub(n) > 1
 }
 
 // What the first at bytes of the line say, as line n of an export.
-fn entry_of(line: &[u8], at: usize, n: usize) -> Listed
+fn entry_of(line: &[u8], at: usize, n: usize) -> Option<Edges>
     ensures { result ≡ entry (take at line.now) n }
 {
-    let end = session::least(at, line.len());
-    text::entry(&line[0..end], n)
+    let end = at.min(line.len());
+    text::entry(&line[..end], n)
 }
 
 // Line n of an export is at its end.
+// Kept: the slices one by one: with `Buffers` a caller would have to lend the line, which is only
+// read here, as one to write.
 pub fn load_line(
     left: &mut [u16],
     right: &mut [u16],
@@ -157,22 +149,15 @@ pub fn load_line(
         ≡ noting m n (entry (take g.at line.now) n) (standing (Stage.Serving m) g left.old
         right.old colour.old lefts.old rights.old line.now out.old) }
 {
-    let listed = entry_of(line, g.at, n);
-    let rec = g.rec;
-    match listed {
-        Listed::Edges(l, r) => {
-            note(lefts, rights, n, l, r);
-            if more(rec.m, n) {
-                let run = Run {
-                    rec,
-                    at: 0,
-                    used: g.used,
-                };
-                let stage = Stage::Loading(m, n + 1);
-                return Session { stage, run };
-            }
-            fill(left, right, colour, lefts, rights, out, g, m)
-        }
-        Listed::Stray => stop(out, g, m),
+    let Some(edges) = entry_of(line, g.at, n) else {
+        return stop(out, g, m);
+    };
+    note(lefts, rights, n, edges);
+    if more(g.rec.m, n) {
+        return Session {
+            stage: Stage::Loading(m, n + 1),
+            run: Run { at: 0, ..g },
+        };
     }
+    fill(left, right, colour, lefts, rights, out, g, m)
 }

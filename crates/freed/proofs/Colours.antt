@@ -4,7 +4,12 @@ use mathlib.Core.Path.{◌≡◌, refl, sym}
 use mathlib.Core.Bool.{Bool, true, false}
 use mathlib.Core.List.{List}
 use native.Mathlib.Omega.{arith}
-use lib.ListN.{get_or, set}
+use lib.ListN.{length, get_or, set, take, drop}
+use Rattle.std.proofs.Common.{Option, None, Some, length-take, length-drop}
+use Rattle.std.proofs.lemmas.List.{get_or-take, get_or-drop}
+use Rattle.std.specs.List.{AllWithin, HoldsAt}
+use Rattle.std.specs.Option.{MatchOption, unwrap_or}
+use Rattle.std.specs.Bool.{⊤}
 use lib.Seq.{get_or-set_other}
 use lib.Dec.{eqb}
 use Rattle.base.specs.Choice.{pick}
@@ -14,7 +19,8 @@ use Rattle.rules.specs.Phases.{append_tag, tag_of}
 use Rattle.rules.specs.Facts.{quiet}
 use Rattle.freed.specs.Gathers.{dark, dark_in, far}
 use Rattle.rules.specs.declared.Phase.{Phase}
-use Rattle.rules.specs.declared.Phase.TheVariants.{Append}
+use Rattle.rules.specs.declared.Phase.TheVariants.{Roots, Scan, Left, ShadeLeft, Right}
+use Rattle.rules.specs.declared.Phase.TheVariants.{ShadeRight, Black, Append}
 
 pub dark_most : (n i : ℕ) (c : List ℕ) → dark n i c ≤ n
 unfolding dark
@@ -57,21 +63,44 @@ dark_set zero i j v c h = refl
 dark_set (suc n) i j v c h =
     rw (get_or-set_other c j i v 0 (λ e. omega arith), dark_set n (i + 1) j v c (omega arith))
 
--- the loop: n colours are not white, and k is all
-pub dark_start : (m i : ℕ) (c : List ℕ) → dark m i c ≡ 0 + dark (m - 0) (i + 0) c
-dark_start m i c =
-    let z : m - 0 ≡ m = omega arith in let y : i + 0 ≡ i = omega arith in rw (z, y) (omega arith)
-
-pub dark_on : (m n i k : ℕ) (c : List ℕ) → n < m → (get_or c (i + n) 0 ≡ 0 → ⊥)
-    → k ≡ n + dark (m - n) (i + n) c → k ≡ n + 1 + dark (m - (n + 1)) (i + (n + 1)) c
+-- n colours that are not white
+pub dark_reached : (m n i : ℕ) (c : List ℕ) → n ≤ m
+    → ((j : ℕ) → j < n → get_or c (i + j) 0 ≡ 0 → ⊥) → n ≤ dark m i c
 unfolding dark
-dark_on m n i k c h f e =
-    let z : m - n ≡ suc (m - (n + 1)) = omega arith in
-    let y : i + (n + 1) ≡ i + n + 1 = omega arith in
-    let x = rw z at e in
-    let w = pick_no (suc (dark (m - (n + 1)) (i + n + 1) c)) 0 _ _
-    (eq_no (get_or c (i + n) 0) white f) refl in
-    rw y (omega (arith, x, w))
+dark_reached m zero i c h f = omega arith
+dark_reached zero (suc n) i c h f = absurd (omega arith)
+dark_reached (suc m) (suc n) i c h f =
+    let z : i + 0 ≡ i = omega arith in
+    let w = pick_no (suc (dark m (i + 1) c)) 0 _ _
+    (eq_no (get_or c i 0) white (rw z at (f 0 (omega arith)))) refl in
+    let y = dark_reached m n (i + 1) c (omega arith)
+    (λ j k. let x : i + 1 + j ≡ i + suc j = omega arith in rw x (f (suc j) (omega arith))) in
+    omega (arith, w, y)
+
+passed : (c : List ℕ) (i k n : ℕ) → n ≤ k
+    → AllWithin (λ v. v ≡ 0 → ⊥) (take k (drop i c)) 0 n
+    → (j : ℕ) → j < n → get_or c (i + j) 0 ≡ 0 → ⊥
+passed c i k n h a j p =
+    rw (get_or-take k (drop i c) j 0 (omega arith), get_or-drop i c j 0)
+    at (a j 0 (omega arith) p)
+
+-- up to the first that is white, or all; w is how many are looked at
+pub first_white : (c : List ℕ) (i w k n : ℕ) (r : Option ℕ)
+    → MatchOption r (AllWithin (λ v. v ≡ 0 → ⊥) (take w (drop i c)) 0 (length (take w (drop i c))))
+    (λ j. (j < length (take w (drop i c))) × HoldsAt (λ v. ⊤) (take w (drop i c)) j
+    × AllWithin (λ v. v ≡ 0 → ⊥) (take w (drop i c)) 0 j)
+    → n ≡ unwrap_or r k → w ≡ k → i + k ≤ length c → (n ≤ k) × (n ≤ dark k i c)
+first_white c i w k n None h e z g =
+    let l = length-take w (drop i c) in
+    let m = length-drop i c in (
+      omega (arith, e),
+      rw e (dark_reached k k i c (omega arith) (passed c i w k (omega arith)
+          (λ j d a b. h j d a (omega arith)))),
+    )
+first_white c i w k n (Some j) h e z g =
+    let l = length-take w (drop i c) in
+    let a = h.0 in
+    (omega (arith, e), rw e (dark_reached k j i c (omega arith) (passed c i w j (omega arith) h.2)))
 
 -- a number that is at most that of fewer colours
 pub dark_within : (n k e i : ℕ) (c : List ℕ) → n ≤ dark k i c → k ≤ e → n ≤ dark e i c
@@ -91,3 +120,24 @@ pub far_append : (n e m i : ℕ) (c : List ℕ) → n ≤ dark (e - i) i c → e
     → n ≤ far m c (Append i)
 far_append n e m i c h g =
     omega (arith, far_dark m i c, dark_more (e - i) (m - i) i c (omega arith))
+
+-- a phase that is neither Scan nor Append
+pub quiet_other : (m : ℕ) (p : Phase) → ((i k : ℕ) → p ≡ Scan i k → ⊥)
+    → ((i : ℕ) → p ≡ Append i → ⊥) → m ≡ quiet m p
+unfolding quiet pick
+quiet_other m (Roots i) f g = refl
+quiet_other m (Scan i k) f g = absurd (f i k refl)
+quiet_other m (Left i) f g = refl
+quiet_other m (ShadeLeft i n) f g = refl
+quiet_other m (Right i) f g = refl
+quiet_other m (ShadeRight i n) f g = refl
+quiet_other m (Black i) f g = refl
+quiet_other m (Append i) f g = absurd (g i refl)
+
+pub quiet_scan : (m i k : ℕ) → k ≡ quiet m (Scan i k)
+unfolding quiet pick
+quiet_scan m i k = refl
+
+pub quiet_append : (m i : ℕ) → 0 ≡ quiet m (Append i)
+unfolding quiet pick
+quiet_append m i = refl

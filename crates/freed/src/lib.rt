@@ -3,7 +3,7 @@
 
 ghost use Rattle.std.specs.Prelude.{◌≡◌, [], ◌++◌, ◌+◌, ◌-◌, ◌<◌, ◌≤◌, length, take, drop};
 ghost use Rattle.rules.specs.Table.{state};
-ghost use Rattle.freed.specs.Freed.{is_appended, appended_by, room_of, run_in, changes_in};
+ghost use Rattle.freed.specs.Freed.{appended_by, room_of, run_in, changes_in};
 ghost use Rattle.freed.specs.Freed.{appended_in, noted, freed};
 ghost use Rattle.rules.specs.Facts.{quiet};
 ghost use Rattle.freed.specs.Gathers.{gathered, gather, dark, far, Turn};
@@ -14,6 +14,10 @@ use rules::{Answer, Phase, Record};
 
 // How many steps were done, the code that ended them or 0, with its detail, how many colours they
 // changed in all, how many nodes they appended, and the record.
+// Kept: a code is a number of the rules, 0 where no step was refused, as `run_in` and C have it.
+// The list is lent by C's jenturik_collect_freed, so the count of its nodes goes beside it.
+// Kept: the fields of `Ran` and no `Ran` in it, since the definition `freed` and C have them side
+// by side.
 #[derive(Clone, Copy)]
 pub struct Freed {
     pub done: usize,
@@ -24,37 +28,15 @@ pub struct Freed {
     pub rec: Record,
 }
 
-fn is_appended(a: Answer) -> bool
-    ensures { result ≡ is_appended a }
-{
-    match a {
-        Answer::Started(_) => false,
-        Answer::Named(_) => false,
-        Answer::Linked(_) => false,
-        Answer::Taken(_) => false,
-        Answer::Shaded(_) => false,
-        Answer::Looked(_) => false,
-        Answer::Blackened(_) => false,
-        Answer::Whitened(_) => false,
-        Answer::Appended(_) => true,
-        Answer::Counted(_) => false,
-        Answer::Refused(_, _, _) => false,
-    }
-}
-
 // So many steps, at least, come before the first of Append.
 fn quiet(x: Record) -> u16
     ensures { result ≡ quiet x.m x.phase }
 {
-    let phase = x.phase;
-    let tag = rules::tag(phase);
-    if tag == rules::SCAN_TAG {
-        return rules::second(phase);
+    match x.phase {
+        Phase::Scan(_, k) => k,
+        Phase::Append(_) => 0,
+        _ => x.m,
     }
-    if tag == rules::APPEND_TAG {
-        return 0;
-    }
-    x.m
 }
 
 // How many colours from i on, in a row and at most most, are not white.
@@ -62,14 +44,10 @@ fn until_white(colour: &[u8], i: usize, most: usize) -> usize
     requires { i + most ≤ length colour.now }
     ensures { (result ≤ most) × (result ≤ dark most i colour.now) }
 {
-    let mut n = 0;
-    while n < most {
-        if colour[i + n] == 0 {
-            return n;
-        }
-        n += 1;
-    }
-    n
+    colour[i..i + most]
+        .iter()
+        .position(|v| *v == 0)
+        .unwrap_or(most)
 }
 
 // The same of the colours before end.
@@ -80,27 +58,28 @@ fn dark(colour: &[u8], i: usize, end: usize, most: usize) -> usize
     if end <= i {
         return 0;
     }
-    until_white(colour, i, ahead::least(most, end - i))
+    until_white(colour, i, most.min(end - i))
 }
 
 // So many steps, at most most, append nothing.
 fn far(colour: &[u8], x: Record, most: usize) -> usize
     ensures { (result ≤ most) × (result ≤ far x.m colour.now x.phase) }
 {
-    let m = x.m;
-    let phase = x.phase;
-    match phase {
+    match x.phase {
         Phase::Append(i) => dark(
             colour,
-            i as usize,
-            ahead::least(m as usize, colour.len()),
+            usize::from(i),
+            colour.len().min(usize::from(x.m)),
             most,
         ),
-        _ => ahead::least(most, quiet(x) as usize),
+        _ => most.min(usize::from(quiet(x))),
     }
 }
 
 // At most n steps, of which only the last can append a node.
+// Kept: three slices and a record, also below: a struct of three `&mut` slices would need a clause
+// in each function that it lends the same ones afterwards, as `SameSlices` of session is, and
+// jenturik_collect_freed lends them one by one.
 fn turn(left: &mut [u16], right: &mut [u16], colour: &mut [u8], x: Record, n: usize) -> Many
     requires { 1 ≤ n }
     ensures { Turn (given left.old right.old colour.old x) n result.done result.changed
@@ -119,25 +98,23 @@ fn note(list: &mut [u16], count: u16, a: Answer) -> u16
     ensures list_value { take result list.new ≡ take count list.old ++ appended_by a }
     ensures list_value_2 { drop result list.new ≡ drop result list.old }
 {
-    if !is_appended(a) {
-        return count;
+    match a {
+        Answer::Appended(n) => {
+            list[usize::from(count)] = n;
+            count + 1
+        }
+        _ => count,
     }
-    let at = count as usize;
-    list[at] = a.node();
-    count + 1
 }
 
 // For how many nodes the list has room.
 fn room_of(n: usize) -> u16
     ensures { result ≡ room_of n }
 {
-    if n < 65535 {
-        return n as u16;
-    }
-    65535
+    u16::try_from(n).unwrap_or(u16::MAX)
 }
 
-// At most n steps, until room nodes are appended.
+// At most n steps, until the list is full of the nodes that they append.
 fn turns(
     left: &mut [u16],
     right: &mut [u16],
@@ -145,20 +122,20 @@ fn turns(
     x: Record,
     n: usize,
     list: &mut [u16],
-    room: u16,
 ) -> Freed
-    requires { room ≤ length list.old }
+    requires { length list.old < 65536 }
     ensures count_in_bounds { result.count ≤ length list.new }
     ensures list_value { gathered (freed result left.new right.new colour.new) result.changed
         (take result.count list.new)
-        ≡ gather n room 0 0 [] (given left.old right.old colour.old x) }
+        ≡ gather n (length list.old) 0 0 [] (given left.old right.old colour.old x) }
     ensures list_value_2 { drop result.count list.new ≡ drop result.count list.old }
 {
     let mut rec = x;
     let mut done = 0;
     let mut changed = 0;
     let mut count = 0;
-    while done < n && count < room {
+    // Kept: a turn makes any number of steps, so this is no loop over a range.
+    while done < n && usize::from(count) < list.len() {
         let gone = turn(left, right, colour, rec, n - done);
         let answer = gone.answer;
         rec = gone.rec;
@@ -218,5 +195,6 @@ pub fn collect_freed(
             rec: x,
         };
     }
-    turns(left, right, colour, x, n, list, room_of(list.len()))
+    let room = usize::from(room_of(list.len()));
+    turns(left, right, colour, x, n, &mut list[..room])
 }

@@ -101,6 +101,10 @@ at l k c x s p =
       sizes = sized l k c (swept x s) p;
     }
 
+-- the position i, where no more nodes are free than at s
+abbrev pub up_to : AppendAt → ℕ → AppendAt
+up_to s i = record { i = i; last = s.last; free = s.free }
+
 -- the position that stands for x
 abbrev pub begun : Record → ℕ → AppendAt
 begun x i = record { i = i; last = x.last; free = x.free }

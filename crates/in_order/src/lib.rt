@@ -1,7 +1,7 @@
 // Roots and Append on plain numbers, up to the last step of each.
 #![tactic(auto)]
 
-ghost use Rattle.std.specs.Prelude.{◌≡◌, ◌+◌, ◌-◌, ◌<◌, ◌≤◌, length};
+ghost use Rattle.std.specs.Prelude.{◌≡◌, ◌+◌, ◌-◌, ◌<◌, ◌≤◌, length, MatchOption};
 ghost use Rattle.rules.specs.Table.{most_nodes, state};
 ghost use Rattle.rules.specs.Facts.{many_steps};
 ghost use Rattle.rules.specs.Phases.{position};
@@ -36,25 +36,26 @@ fn shading(colour: &mut [u8], i: usize, cap: usize) -> Shaded
     requires colour_len_bound { length colour.old ≤ most_nodes }
     ensures { (result.d ≤ cap) × Shades colour.old i cap result.d result.changed colour.new }
 {
-    let mut d = 0;
     let mut changed = 0;
-    while d < cap {
-        if 2 < colour[i + d] {
+    for d in 0..cap {
+        let n = i + d;
+        if colour[n] > table::BLACK {
             return Shaded { d, changed };
         }
-        let more = table::shade_node(colour, (i + d) as u16);
-        changed += more as usize;
-        d += 1;
+        let more = table::shade_node(colour, n as u16);
+        changed += usize::from(more);
     }
-    Shaded { d, changed }
+    Shaded { d: cap, changed }
 }
 
+// Kept: `as`, also below: a `usize` has no `From` into a narrower type, and each value is proved to
+// fit.
 fn rooted(mut x: Record, i: usize, d: usize) -> Record
     requires d_bound { i + d < most_nodes }
     requires d_bound_2 { x.steps + d < many_steps }
     ensures { result ≡ rooted x i d }
 {
-    x.steps = x.steps + d as u32;
+    x.steps += d as u32;
     x.with_phase(Phase::Roots((i + d) as u16))
 }
 
@@ -68,13 +69,15 @@ fn swept(mut x: Record, from: usize, s: AppendAt) -> Record
     requires from_bound { x.steps + (s.i - from) < many_steps }
     ensures { result ≡ swept x s }
 {
-    x.steps = x.steps + (s.i - from) as u32;
+    x.steps += (s.i - from) as u32;
     x.free = s.free as u16;
     x.last = s.last as u16;
     x.with_phase(Phase::Append(s.i as u16))
 }
 
 // Roots i: at most cap steps, none of them that of the last root.
+// Kept: i stands beside the record, also in `appends`: `stride` of batch has just matched the
+// phase.
 pub fn roots(left: &[u16], right: &[u16], colour: &mut [u8], x: Record, i: u16, cap: usize) -> Ahead
     requires passes { Passes (state left.now right.now colour.old x) }
     requires room { Room x cap }
@@ -83,8 +86,8 @@ pub fn roots(left: &[u16], right: &[u16], colour: &mut [u8], x: Record, i: u16, 
         result.changed
         (state left.now right.now colour.new result.rec) }
 {
-    let from = i as usize;
-    let near = ahead::least(cap, x.r as usize + 1 - from);
+    let from = usize::from(i);
+    let near = cap.min(usize::from(x.r) + 1 - from);
     let shaded = shading(colour, from, near);
     Ahead {
         d: shaded.d,
@@ -94,61 +97,61 @@ pub fn roots(left: &[u16], right: &[u16], colour: &mut [u8], x: Record, i: u16, 
 }
 
 // Black nodes become white, up to end or to a node that is not black.
+// Kept: a loop: `position` and then `fill` of that part would go over the same nodes twice.
 fn whitening(colour: &mut [u8], end: usize, from: AppendAt) -> AppendAt
     requires i_le_end { from.i ≤ end }
     requires end_in_bounds { end ≤ length colour.old }
     ensures { (result.i ≤ end) × Whitens colour.old end from colour.new result }
 {
-    let mut s = from;
-    while s.i < end {
-        let i = s.i;
-        if colour[i] != 2 {
-            return s;
+    for i in from.i..end {
+        if colour[i] != table::BLACK {
+            return AppendAt { i, ..from };
         }
-        colour[i] = 0;
-        s.i = i + 1;
+        colour[i] = table::WHITE;
     }
-    s
+    AppendAt { i: end, ..from }
 }
 
-// One step of Append; s where it is refused. One more may be free.
+// One step of Append, or none where it is refused. One more may be free.
+// Kept: x and end are two parameters, since `append_some` passes another end on than it is given.
+// Kept: three slices, also below: a struct of three `&mut` slices would need a clause in each
+// function that it lends the same ones afterwards, as `SameSlices` of session is.
+// Kept: beside `append_step` of collector, which makes the record anew at each step: one `collect`
+// takes 28 ns, a step in a call of 1,000 takes 1.2 ns (docs/BENCHMARKS.md, in order, M = 64).
 fn append_one(
     left: &mut [u16],
     right: &mut [u16],
     colour: &mut [u8],
     x: Record,
     s: AppendAt,
-) -> AppendAt
+) -> Option<AppendAt>
     requires can_append { CanAppend left.old right.old colour.old x (s.i + 1) s }
     requires r_bound { x.r + 1 < s.i }
     requires r_bound_2 { s.free + (x.r + 2) < x.m }
-    ensures { (result.i ≤ s.i + 1) × AppendLeads left.old right.old colour.old x s
-        left.new right.new colour.new result }
+    ensures { MatchOption result (AppendLeads left.old right.old colour.old x s
+        left.new right.new colour.new s) (λ t. (t.i ≡ s.i + 1)
+        × AppendLeads left.old right.old colour.old x s left.new right.new colour.new t) }
 {
-    let i = s.i;
-    let last = s.last;
-    if colour[i] == 2 {
-        colour[i] = 0;
-        return AppendAt {
+    let AppendAt { i, last, free } = s;
+    if colour[i] == table::BLACK {
+        colour[i] = table::WHITE;
+        return Some(AppendAt {
             i: i + 1,
             last,
-            free: s.free,
-        };
+            free,
+        });
     }
-    if colour[i] != 0 {
-        return s;
-    }
-    if i == last {
-        return s;
+    if colour[i] != table::WHITE || i == last {
+        return None;
     }
     left[i] = 0;
     right[i] = 0;
     left[last] = i as u16;
-    AppendAt {
+    Some(AppendAt {
         i: i + 1,
         last: i,
-        free: s.free + 1,
-    }
+        free: free + 1,
+    })
 }
 
 // Steps of Append up to end, or to one that is refused. All these nodes may be free.
@@ -167,11 +170,9 @@ fn append_each(
         left.new right.new colour.new result }
 {
     let mut s = from;
-    while s.i < end {
-        let t = append_one(left, right, colour, x, s);
-        if t.i == s.i {
-            return t;
-        }
+    while s.i < end
+        && let Some(t) = append_one(left, right, colour, x, s)
+    {
         s = t;
     }
     s
@@ -184,10 +185,8 @@ fn limit(x: Record, end: usize, s: AppendAt) -> usize
     requires r_bound { s.free + (x.r + 2) ≤ x.m }
     ensures { (s.i ≤ result) × (result ≤ end) × (s.free + result + (x.r + 2) ≤ s.i + x.m) }
 {
-    let i = s.i;
-    let room = x.m as usize - (s.free + x.r as usize + 2);
-    let most = ahead::least(end - i, room);
-    i + most
+    let room = usize::from(x.m) - (s.free + usize::from(x.r) + 2);
+    end.min(s.i + room)
 }
 
 // Steps of Append behind the roots, up to end or to one that is refused, and no more than can be
@@ -204,8 +203,7 @@ fn append_some(
     ensures { (result.i ≤ end) × AppendLeads left.old right.old colour.old x s
         left.new right.new colour.new result }
 {
-    let i = s.i;
-    if i <= x.r as usize + 1 {
+    if s.i <= usize::from(x.r) + 1 {
         return s;
     }
     let near = limit(x, end, s);
@@ -229,6 +227,7 @@ fn appending(
     while s.i < end {
         let whitened = whitening(colour, end, s);
         let t = append_some(left, right, colour, x, end, whitened);
+        // Kept: a turn makes any number of steps, so its place tells that it made none.
         if t.i == s.i {
             return t;
         }
@@ -253,12 +252,12 @@ pub fn appends(
         result.changed
         (state left.new right.new colour.new result.rec) }
 {
-    let from = i as usize;
-    let free = x.free as usize;
-    let near = ahead::least(cap, x.m as usize - 1 - from);
+    let from = usize::from(i);
+    let free = usize::from(x.free);
+    let near = cap.min(usize::from(x.m) - 1 - from);
     let begun = AppendAt {
         i: from,
-        last: x.last as usize,
+        last: usize::from(x.last),
         free,
     };
     let s = appending(left, right, colour, x, from + near, begun);

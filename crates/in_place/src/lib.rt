@@ -9,6 +9,9 @@ ghost use Rattle.rules.specs.Lent.{given};
 
 use rules::{Record, Told};
 
+// Kept: slices and record go one by one, as `collector::collect` takes them, and no `From` makes
+// `rules::Told` of a `Made`, since this is the one place that needs it.
+
 // [Calls 4] One step of the collector, as `collector::collect` does it.
 pub fn collect_in_place(
     left: &mut [u16],

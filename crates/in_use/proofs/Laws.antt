@@ -1,13 +1,14 @@
 -- Laws of the definition that the proofs cite: what is answered of the numbers met.
-use Prim.Native.Nat.{ℕ, ◌+◌, ◌-◌, ◌≤◌, ◌<◌}
+use Prim.Native.Nat.{ℕ, ◌+◌, ◌-◌, ◌≤◌}
 use mathlib.Core.Bool.{true}
 use mathlib.Core.Path.{◌≡◌, refl, sym, ap}
 use mathlib.Core.List.{List}
 use native.Mathlib.Omega.{arith}
+use Rattle.std.specs.Prelude.{Option, Some, None}
 use Rattle.base.proofs.Tests.{lt_yes, lt_no, pick_yes, pick_no, code_yes, code_no}
 use Rattle.rules.specs.Table.{State, most_nodes, bad_edge}
 use Rattle.rules.specs.Check.{check}
-use Rattle.rules.specs.Meet.{met, meet, any_edge, first_side}
+use Rattle.rules.specs.Meet.{meet, any_edge, first_side}
 use Rattle.rules.specs.InUse.{is_hurt, first_hurt, hurt_at, count_met, in_use}
 use Rattle.rules.specs.declared.Answer.{Answer}
 use Rattle.rules.specs.declared.Answer.TheVariants.{Counted, Refused}
@@ -17,29 +18,8 @@ use Rattle.reach.proofs.Given.{every_two}
 use Rattle.reach.proofs.Meets.{meet_numbers}
 use Rattle.meet.specs.Shown.{Told}
 
--- the first hurt node has a bad edge
-pub hurt_has : (m : ℕ) (es : List (List ℕ)) (num : List ℕ) (n : ℕ) → n ≡ first_hurt m es num
-    → n < m → true ≡ any_edge (bad_edge m) es n
-unfolding first_hurt is_hurt
-hurt_has m es num n e h =
-    let w : Passes (is_hurt m es num) 0 m (first_hurt m es num) = lowest_passes _ m in
-    let k = rw (sym e) at w in
-    sym (every_two _ _ (every_two _ _ (k.passes h)).1).0
-
--- what is answered, n being the first hurt node or m
-module _ (m r : ℕ) (es : List (List ℕ)) (num order : List ℕ) (tail n : ℕ)
-    (e : n ≡ first_hurt m es num) where
-  pub met_hurt : (side : ℕ) → n < m → side ≡ first_side (bad_edge m) es n
-      → Refused 7 n side ≡ count_met m r es (met num order tail)
-  unfolding count_met hurt_at
-  met_hurt side h q = rw (← e, q) (pick_yes _ _ _ _ (lt_yes n m h) refl)
-
-  pub met_whole : m ≤ n → Counted (tail - (r + 2)) ≡ count_met m r es (met num order tail)
-  unfolding count_met
-  met_whole h = rw (← e) (pick_no _ _ _ _ (lt_no n m h) refl)
-
 -- what `meet` tells
-module _ {m : ℕ} (r : ℕ) {es : List (List ℕ)} {marks : List ℕ} {tail h : ℕ}
+module _ {m : ℕ} (r : ℕ) {es : List (List ℕ)} {marks : List ℕ} {tail : ℕ} {h : Option ℕ}
     (w : Told m es marks tail h (meet m r es)) where
   -- the numbers given are at least the slots', and no more than there are nodes
   pub tail_fits : r + 2 ≤ m → m ≤ most_nodes → (r + 2 ≤ tail) × (tail ≤ m)
@@ -47,10 +27,31 @@ module _ {m : ℕ} (r : ℕ) {es : List (List ℕ)} {marks : List ℕ} {tail h :
       let n = meet_numbers m r es room few in
       rw w.end (n.start, top n.kept (omega arith))
 
-  -- it is what is counted
-  pub counted : (a : Answer) → ((num order : List ℕ) → h ≡ first_hurt m es num
-      → a ≡ count_met m r es (met num order tail)) → a ≡ count_met m r es (meet m r es)
-  counted a f = rw w.end at (f (meet m r es).num (meet m r es).order w.first)
+  -- n is the first hurt node: it has a bad edge, and is refused
+  module _ (n : ℕ) (e : h ≡ Some n) where
+    first : n ≡ first_hurt m es (meet m r es).num
+    first = rw e at w.first
+
+    pub hurt_has : true ≡ any_edge (bad_edge m) es n
+    unfolding first_hurt is_hurt
+    hurt_has =
+        let l : Passes (is_hurt m es (meet m r es).num) 0 m (first_hurt m es (meet m r es).num) =
+        lowest_passes _ m in
+        let k = rw (sym first) at l in
+        sym (every_two _ _ (every_two _ _ (k.passes (w.inside n e))).1).0
+
+    pub met_hurt : (side : ℕ) → side ≡ first_side (bad_edge m) es n
+        → Refused 7 n side ≡ count_met m r es (meet m r es)
+    unfolding count_met hurt_at
+    met_hurt side q =
+        rw (← first, q) (pick_yes _ _ _ _ (lt_yes n m (w.inside n e)) refl)
+
+  -- there is none: the numbers beyond the slots' are counted
+  pub met_whole : h ≡ None → Counted (tail - (r + 2)) ≡ count_met m r es (meet m r es)
+  unfolding count_met
+  met_whole e =
+      let first : m ≡ first_hurt m es (meet m r es).num = rw e at w.first in
+      rw (← first, w.end) (pick_no _ _ _ _ (lt_no m m (omega arith)) refl)
 
 -- code is what the check answered
 module _ (s : State) (code : ℕ) (e : code ≡ check s) where

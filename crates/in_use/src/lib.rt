@@ -1,78 +1,57 @@
 // In use: how many nodes slots reach at the moment of asking. Nothing is written.
 #![tactic(auto)]
 
-ghost use Rattle.std.specs.Prelude.{◌≡◌, List, [], ◌∷◌, ℕ, ◌+◌, ◌<◌, ◌≤◌, length, get_or, true};
-ghost use Rattle.rules.specs.Table.{most_nodes, most_slots, bad_edge};
+ghost use Rattle.std.specs.Prelude.{◌≡◌, List, [], ◌∷◌, ℕ, ◌<◌, ◌≤◌, length, true};
+ghost use Rattle.rules.specs.Table.{most_nodes, bad_edge};
 ghost use Rattle.rules.specs.Lent.{given};
-ghost use Rattle.rules.specs.Meet.{met, meet, any_edge, first_side};
-ghost use Rattle.rules.specs.InUse.{first_hurt, count_met, in_use};
+ghost use Rattle.rules.specs.Meet.{meet, any_edge, first_side};
+ghost use Rattle.rules.specs.InUse.{count_met, in_use};
+ghost use Rattle.meet.specs.Edges.{edges};
 
+use meet::{FEW_NODES, Graph};
 use rules::{Answer, MOST_NODES, Record};
 
 // The side of the first bad edge of node n, which has one.
+// Kept: `bad_side` of Load is the same of 32-bit edges by another test; one function for both is no
+// plainer, since it takes the test as a closure and serves one call in each crate.
 fn hurt_side(left: &[u16], m: u16, n: u16) -> u8
     requires { n < length left.now }
     ensures { (right : List ℕ) → true ≡ any_edge (bad_edge m) (left.now ∷ right ∷ []) n
         → result ≡ first_side (bad_edge m) (left.now ∷ right ∷ []) n }
 {
-    let at = n as usize;
-    if table::bad_edge(m, left[at]) {
-        return rules::LEFT;
+    if table::bad_edge(m, left[usize::from(n)]) {
+        rules::LEFT
+    } else {
+        rules::RIGHT
     }
-    rules::RIGHT
 }
 
-// What is answered where the numbers from 2 to below tail were given, and `hurt` is the first hurt
-// node, m where there is none.
-fn count_met(left: &[u16], m: u16, r: u16, tail: usize, hurt: u16) -> Answer
-    requires m_le_most_nodes { m ≤ most_nodes }
-    requires r_le_most_slots { r ≤ most_slots }
-    requires r_bound { r + 2 ≤ tail }
-    requires tail_le_m { tail ≤ m }
-    requires left_len { length left.now ≡ m }
-    ensures { (right num order : List ℕ)
-        → hurt ≡ first_hurt m (left.now ∷ right ∷ []) num
-        → result ≡ count_met m r (left.now ∷ right ∷ []) (met num order tail) }
+// What is answered of a table that passes its test, with N marks.
+// Kept: the marks are an array of N, since there is no heap; `as`, since the number
+// is proved to fit.
+fn count_in<const N: usize>(graph: Graph) -> Answer
+    requires m_in_bounds { graph.m ≤ N }
+    requires n_le_most_nodes { N ≤ most_nodes }
+    ensures { result ≡ count_met graph.entry.m graph.entry.r
+        (edges graph.entry) (meet graph.entry.m graph.entry.r (edges graph.entry)) }
 {
-    if hurt < m {
-        return Answer::refused_with(7, hurt, hurt_side(left, m, hurt));
+    let mut marks = [0; N];
+    let met = meet::meet(graph, &mut marks);
+    match met.hurt {
+        Some(n) => Answer::refused_with(7, n, hurt_side(graph.left, graph.m, n)),
+        None => Answer::Counted(met.tail as u16 - (graph.r + 2)),
     }
-    Answer::Counted(tail as u16 - (r + 2))
-}
-
-// What is answered of a table that passes its test, with marks that are zeros.
-fn count_with(left: &[u16], right: &[u16], marks: &mut [u8], m: u16, r: u16) -> Answer
-    requires m_le_most_nodes { m ≤ most_nodes }
-    requires r_le_most_slots { r ≤ most_slots }
-    requires r_bound { r + 2 ≤ m }
-    requires left_len { length left.now ≡ m }
-    requires right_len { length right.now ≡ m }
-    requires m_in_bounds { m ≤ length marks.old }
-    requires by_index { (n : ℕ) → get_or marks.old n 0 ≡ 0 }
-    ensures { result ≡ count_met m r (left.now ∷ right.now ∷ [])
-        (meet m r (left.now ∷ right.now ∷ [])) }
-{
-    let met = meet::meet(left, right, marks, m, r);
-    count_met(left, m, r, met.tail, met.hurt)
 }
 
 // The same; a table of few nodes has no more marks cleared than it may need.
-fn count(left: &[u16], right: &[u16], m: u16, r: u16) -> Answer
-    requires m_le_most_nodes { m ≤ most_nodes }
-    requires r_le_most_slots { r ≤ most_slots }
-    requires r_bound { r + 2 ≤ m }
-    requires left_len { length left.now ≡ m }
-    requires right_len { length right.now ≡ m }
-    ensures { result ≡ count_met m r (left.now ∷ right.now ∷ [])
-        (meet m r (left.now ∷ right.now ∷ [])) }
+fn count(graph: Graph) -> Answer
+    ensures { result ≡ count_met graph.entry.m graph.entry.r
+        (edges graph.entry) (meet graph.entry.m graph.entry.r (edges graph.entry)) }
 {
-    let nodes = m as usize;
-    if nodes <= meet::FEW_NODES {
-        let mut few = [0u8; meet::FEW_NODES];
-        return count_with(left, right, &mut few, m, r);
+    if usize::from(graph.m) <= FEW_NODES {
+        return count_in::<FEW_NODES>(graph);
     }
-    let mut marks = [0u8; MOST_NODES];
-    count_with(left, right, &mut marks, m, r)
+    count_in::<MOST_NODES>(graph)
 }
 
 // How many nodes some slot reaches, NIL and the slots' nodes left out.
@@ -84,5 +63,10 @@ pub fn in_use(left: &[u16], right: &[u16], colour: &[u8], x: Record) -> Answer
     if code != 0 {
         return Answer::refused(code, 0);
     }
-    count(left, right, x.m, x.r)
+    count(Graph {
+        left,
+        right,
+        m: x.m,
+        r: x.r,
+    })
 }

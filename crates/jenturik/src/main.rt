@@ -5,9 +5,10 @@
 // there says how the run ended, unless all was answered.
 #![tactic(auto)]
 
-ghost use Rattle.std.specs.Prelude.{◌≤◌, length};
+ghost use Rattle.std.specs.Prelude.{◌<◌, ◌≤◌, length, IfOk};
 
-use session::Session;
+use session::{Buffers, Session};
+use std::fmt::{self, Display};
 use std::io::{self, ErrorKind, Print, Read};
 use std::rt::{Stdin, Stdout};
 use std::thread;
@@ -18,22 +19,24 @@ const BLOCK: usize = 16384;
 
 const OUT: usize = 360448;
 
-// How a run stands: it goes on, or has ended so.
+// Why a run ended before all was answered.
 #[derive(Clone, Copy)]
-pub enum Standing {
-    Going,
-    Answered,
+pub enum Failure {
     Refused,
     Unloaded,
     Unread,
     Unwritten,
 }
 
-// Where a block led, and how the run stands.
-#[derive(Clone, Copy)]
-pub struct Led {
-    pub s: Session,
-    pub standing: Standing,
+impl Display for Failure {
+    fn fmt<W: fmt::Write>(&self, f: &mut fmt::Formatter<W>) -> fmt::Result {
+        match self {
+            Failure::Refused => write!(f, "the first line is refused"),
+            Failure::Unloaded => write!(f, "the export is refused"),
+            Failure::Unread => write!(f, "the input cannot be read"),
+            Failure::Unwritten => write!(f, "the output cannot be written"),
+        }
+    }
 }
 
 // Whether a call that failed is made again: it was interrupted, or the other side is not ready.
@@ -48,172 +51,104 @@ fn again(error: io::Error) -> bool {
     }
 }
 
-// The next bytes of the input: how many came, none at its end, or `None` where it cannot be read.
-fn read(mut stdin: Stdin, input: &mut [u8]) -> Option<usize> {
+// 0..u64::MAX, here and below: each loop ends, and the input has no known length.
+
+// The next bytes of the input: how many came, none at its end.
+fn read(mut stdin: Stdin, input: &mut [u8]) -> Result<usize, Failure> {
     for _ in 0..u64::MAX {
         match stdin.read(input) {
-            Ok(got) => return Some(got),
+            Ok(got) => return Ok(got),
             Err(error) => {
                 if !again(error) {
-                    return None;
+                    return Err(Failure::Unread);
                 }
             }
         }
     }
-    None
+    Err(Failure::Unread)
 }
 
-// Writes a part of the bytes: how many were taken, 0 where they cannot be written.
-fn write_some(stdout: Stdout, bytes: &[u8]) -> usize
-    ensures { result ≤ length bytes.now }
+// Writes a part of the bytes, of one at least: how many were taken.
+fn write_some(stdout: Stdout, bytes: &[u8]) -> Result<usize, Failure>
+    ensures some { IfOk result (λ put. 0 < put) }
+    ensures within { IfOk result (λ put. put ≤ length bytes.now) }
 {
     for _ in 0..u64::MAX {
         match stdout.write_some(bytes) {
-            Ok(put) => return put,
+            Ok(0) => return Err(Failure::Unwritten),
+            Ok(put) => return Ok(put),
             Err(error) => {
                 if !again(error) {
-                    return 0;
+                    return Err(Failure::Unwritten);
                 }
             }
         }
     }
-    0
+    Err(Failure::Unwritten)
 }
 
 // Writes all of the bytes, a part after the other.
-fn write(stdout: Stdout, bytes: &[u8]) -> bool {
-    let mut done = 0;
-    while done < bytes.len() {
-        let put = write_some(stdout, &bytes[done..]);
-        if put == 0 {
-            return false;
-        }
-        done += put;
+fn write(stdout: Stdout, bytes: &[u8]) -> Result<(), Failure> {
+    let mut rest = bytes;
+    while !rest.is_empty() {
+        let put = write_some(stdout, rest)?;
+        rest = &rest[put..];
     }
-    true
+    Ok(())
 }
 
 // Writes what a block printed.
-fn write_used(stdout: Stdout, out: &[u8], s: Session) -> bool {
-    let run = s.run;
-    let used = run.used;
-    if out.len() < used {
-        return false;
-    }
-    write(stdout, &out[0..used])
-}
-
-// How the run stands after a block of n bytes, none at the end of the input, whose answers were
-// written or not.
-fn after(written: bool, s: Session, n: usize) -> Standing {
-    if !written {
-        return Standing::Unwritten;
-    }
-    if transcript::is_stopped(s) {
-        return Standing::Unloaded;
-    }
-    if transcript::is_over(s) {
-        return Standing::Refused;
-    }
-    if n == 0 {
-        return Standing::Answered;
-    }
-    Standing::Going
-}
-
-fn goes_on(standing: Standing) -> bool {
-    match standing {
-        Standing::Going => true,
-        Standing::Answered => false,
-        Standing::Refused => false,
-        Standing::Unloaded => false,
-        Standing::Unread => false,
-        Standing::Unwritten => false,
-    }
-}
-
-// Answers what a read delivered, n bytes, and writes the answers.
-fn answer(
-    left: &mut [u16],
-    right: &mut [u16],
-    colour: &mut [u8],
-    lefts: &mut [u32],
-    rights: &mut [u32],
-    line: &mut [u8],
-    out: &mut [u8],
-    stdout: Stdout,
-    s: Session,
-    input: &[u8],
-    n: usize,
-) -> Led {
-    let s = transcript::turn(left, right, colour, lefts, rights, line, out, s, input, n);
-    let standing = after(write_used(stdout, out, s), s, n);
-    Led { s, standing }
+fn write_used(stdout: Stdout, out: &[u8], s: Session) -> Result<(), Failure> {
+    let printed = out.get(..s.run.used).ok_or(Failure::Unwritten)?;
+    write(stdout, printed)
 }
 
 // Reads, answers and writes, a block after the other.
 fn serve(
-    left: &mut [u16],
-    right: &mut [u16],
-    colour: &mut [u8],
-    lefts: &mut [u32],
-    rights: &mut [u32],
-    line: &mut [u8],
-    out: &mut [u8],
+    mut buffers: Buffers<'_>,
     input: &mut [u8],
     stdin: Stdin,
     stdout: Stdout,
-) -> Standing {
+) -> Result<(), Failure> {
     let mut s = transcript::start();
     for _ in 0..u64::MAX {
-        let n = match read(stdin, input) {
-            Some(n) => n,
-            None => return Standing::Unread,
-        };
-        let led = answer(
-            left, right, colour, lefts, rights, line, out, stdout, s, input, n,
-        );
-        let standing = led.standing;
-        s = led.s;
-        if !goes_on(standing) {
-            return standing;
+        let n = read(stdin, input)?;
+        s = transcript::turn_in(&mut buffers, s, input, n);
+        write_used(stdout, buffers.out, s)?;
+        if transcript::is_stopped(s) {
+            return Err(Failure::Unloaded);
+        }
+        if transcript::is_over(s) {
+            return Err(Failure::Refused);
+        }
+        if n == 0 {
+            return Ok(());
         }
     }
-    Standing::Unread
-}
-
-// What is said of how the run ended; nothing where all was answered.
-fn said(standing: Standing) -> &'static str {
-    match standing {
-        Standing::Going => "",
-        Standing::Answered => "",
-        Standing::Refused => "jenturik: the first line is refused\n",
-        Standing::Unloaded => "jenturik: the export is refused\n",
-        Standing::Unread => "jenturik: the input cannot be read\n",
-        Standing::Unwritten => "jenturik: the output cannot be written\n",
-    }
+    Err(Failure::Unread)
 }
 
 fn main(rt: HostRuntime) -> io::Result<()> {
+    // Kept: arrays, since there is no heap.
     let mut left = [0u16; rules::MOST_NODES];
     let mut right = [0u16; rules::MOST_NODES];
     let mut colour = [0u8; rules::MOST_NODES];
     let mut lefts = [0u32; rules::MOST_NODES];
     let mut rights = [0u32; rules::MOST_NODES];
     let mut line = [0u8; transcript::LINE];
-    let mut input = [0u8; BLOCK];
     let mut out = [0u8; OUT];
-    let standing = serve(
-        &mut left,
-        &mut right,
-        &mut colour,
-        &mut lefts,
-        &mut rights,
-        &mut line,
-        &mut out,
-        &mut input,
-        rt.stdin(),
-        rt.stdout(),
-    );
-    rt.stderr().write_all(said(standing).as_bytes())
+    let mut input = [0u8; BLOCK];
+    let buffers = Buffers {
+        left: &mut left,
+        right: &mut right,
+        colour: &mut colour,
+        lefts: &mut lefts,
+        rights: &mut rights,
+        line: &mut line,
+        out: &mut out,
+    };
+    match serve(buffers, &mut input, rt.stdin(), rt.stdout()) {
+        Ok(()) => Ok(()),
+        Err(failure) => eprintln!(rt; "jenturik: {failure}"),
+    }
 }

@@ -15,13 +15,12 @@ use Rattle.rules.specs.Schedules.{Followed, followed, follow, schedule, collects
 use Rattle.rules.specs.declared.Made.{Made}
 use Rattle.rules.specs.declared.Place.{Place}
 use Rattle.rules.specs.declared.Record.{Record}
-use Rattle.rules.specs.declared.Walk.{Walk}
-use Rattle.rules.specs.declared.Walk.TheVariants.{At, Damaged}
-use Rattle.rules.specs.declared.Owed.{Owed}
-use Rattle.rules.specs.declared.Owed.TheVariants.{Nothing, Node}
+use Rattle.rules.specs.Places.{Walk}
+use Rattle.std.specs.Prelude.{Ok, Err, Some, None}
 use Rattle.record_words.specs.Words.{record_of}
 use Rattle.rules.proofs.Laws.{step_taking, step_linking, step_shading, step_collecting}
 use Rattle.rules.proofs.PhaseSteps.{collect_comes}
+use Rattle.rules.specs.Records.{Owed}
 
 -- what holds of the record of s, and of each record that a step can leave instead
 module _ (s : State) (P : Record → Type 0) (same : P s.rec) where
@@ -39,8 +38,8 @@ module _ (s : State) (P : Record → Type 0) (same : P s.rec) where
 
   arrives : (w : Walk) (go : ℕ → Outcome) → ((n : ℕ) → Leaves (go n)) → Leaves (arrive s w go)
   unfolding arrive
-  arrives (At n) go p = p n
-  arrives (Damaged n side) go p = same
+  arrives (Ok n) go p = p n
+  arrives (Err d) go p = same
 
   links : ((n : ℕ) → P (owing s.rec n)) → (p : Place) (side : ℕ) (q : Place)
       → Leaves (step (linking p side q) s)
@@ -51,8 +50,8 @@ module _ (s : State) (P : Record → Type 0) (same : P s.rec) where
 
   pays : P (paid s.rec) → (owed : Owed) → Leaves (pay s owed)
   unfolding pay
-  pays h Nothing = same
-  pays h (Node n) = either _ _ _ same h
+  pays h None = same
+  pays h (Some n) = either _ _ _ same h
 
   shades : P (paid s.rec) → Leaves (step shading s)
   unfolding shade_owed

@@ -5,7 +5,6 @@ use mathlib.Core.Bool.{Bool, true, false}
 use mathlib.Core.List.{List, [], ◌∷◌}
 use mathlib.Core.Path.{◌≡◌, refl, sym, ap, ◌∙◌}
 use native.Mathlib.Omega.{arith}
-use lib.ListN.{length}
 use Rattle.base.specs.Choice.{pick}
 use Rattle.base.proofs.Tests.{first_here, pick_no, eq_no, split}
 use Rattle.rules.specs.Table.{State, Outcome, state, did, refuse, refused}
@@ -30,6 +29,7 @@ use Rattle.record_words.specs.Words.{record_of, is_record, judged}
 use Rattle.record_words.proofs.RoundTrip.{words_back}
 use Rattle.jenturik_c.specs.Face.{Answered, told_of, no_record, shown, faced, face, face_count}
 use Rattle.jenturik_c.specs.Face.{asking, fitted}
+use Rattle.jenturik_c.specs.Lent.{Barred}
 use Rattle.jenturik_c.specs.Many.{faced_run, shown_run, face_run, last_told}
 
 -- what a call answers to a record that does not pass
@@ -92,61 +92,59 @@ module _ (ll rl cl : ℕ) (w : List ℕ) (code : ℕ) (j : code ≡ judged (ll �
       (λ h. omega arith) in
       omega arith
 
-module _ (l r c w : List ℕ) (code : ℕ)
-    (j : code ≡ judged (length l ∷ length r ∷ []) (length c) w) where
+module _ (l r c w : List ℕ) (code : ℕ) (b : Barred l r c w code) where
   abbrev here : State
   here = state l r c (record_of w)
 
-  module _ (n : code ≡ 0 → ⊥) where
-    pub refuses : (f : State → Outcome) → Refuses f → (t : Answered) → t ≡ told_of (refused code 0)
-        → faced t l r c w ≡ face f l r c w
-    unfolding judged face pick
-    refuses f k t e = go (is_record w) refl j
-      where
-        go : (b : Bool) → is_record w ≡ b → code ≡ pick b (check here) 2
-            → faced t l r c w ≡ pick b (shown (f here)) (faced no_record l r c w)
-        go true h q = rw (k here (λ z. n (q ∙ z)), words_back w (sym h), e, q) refl
-        go false h q = rw (e, q) refl
+  pub refuses : (f : State → Outcome) → Refuses f → (t : Answered) → t ≡ told_of (refused code 0)
+      → faced t l r c w ≡ face f l r c w
+  unfolding judged face pick
+  refuses f k t e = go (is_record w) refl b.told
+    where
+      go : (y : Bool) → is_record w ≡ y → code ≡ pick y (check here) 2
+          → faced t l r c w ≡ pick y (shown (f here)) (faced no_record l r c w)
+      go true h q = rw (k here (λ z. b.some (q ∙ z)), words_back w (sym h), e, q) refl
+      go false h q = rw (e, q) refl
 
-    pub refuses_count : (a : Step) → Refuses (step a) → (z : ℕ) → z ≡ 0
-        → z ≡ face_count (changes a) l r c w
-    unfolding judged face_count pick
-    refuses_count a k z e = go (is_record w) j
-      where
-        go : (b : Bool) → code ≡ pick b (check here) 2 → z ≡ pick b (changes a here) 0
-        go true q =
-            e ∙ sym (refused_none a here
-            (λ v. n (q ∙ sym (ap (λ (o : Outcome). code_of o.answer) (k here (λ y. n
-            (q ∙ y)))) ∙ v)))
-        go false q = e
+  pub refuses_count : (a : Step) → Refuses (step a) → (z : ℕ) → z ≡ 0
+      → z ≡ face_count (changes a) l r c w
+  unfolding judged face_count pick
+  refuses_count a k z e = go (is_record w) b.told
+    where
+      go : (y : Bool) → code ≡ pick y (check here) 2 → z ≡ pick y (changes a here) 0
+      go true q =
+          e ∙ sym (refused_none a here
+          (λ v. b.some (q ∙ sym (ap (λ (o : Outcome). code_of o.answer) (k here (λ y. b.some
+          (q ∙ y)))) ∙ v)))
+      go false q = e
 
-    -- the same of n collector steps
-    pub refuses_run : (k : ℕ)
-        → faced_run 0 code 0 l r c w ≡ face_run (schedule (collects k)) l r c w
-    unfolding judged face_run pick
-    refuses_run k = go (is_record w) refl j
-      where
-        go : (b : Bool) → is_record w ≡ b → code ≡ pick b (check here) 2
-            → faced_run 0 code 0 l r c w
-            ≡ pick b (shown_run (schedule (collects k) here)) (faced_run 0 2 0 l r c w)
-        go true h q = rw (← (unscheduled k code here q n).0, words_back w (sym h)) refl
-        go false h q = rw q refl
+  -- the same of n collector steps
+  pub refuses_run : (k : ℕ)
+      → faced_run 0 code 0 l r c w ≡ face_run (schedule (collects k)) l r c w
+  unfolding judged face_run pick
+  refuses_run k = go (is_record w) refl b.told
+    where
+      go : (y : Bool) → is_record w ≡ y → code ≡ pick y (check here) 2
+          → faced_run 0 code 0 l r c w
+          ≡ pick y (shown_run (schedule (collects k) here)) (faced_run 0 2 0 l r c w)
+      go true h q = rw (← (unscheduled k code here q b.some).0, words_back w (sym h)) refl
+      go false h q = rw q refl
 
-    pub refuses_last : (k : ℕ) → told_of (refused code 0) ≡ last_told k l r c w
-    unfolding judged last_told pick
-    refuses_last k = go (is_record w) j
-      where
-        go : (b : Bool) → code ≡ pick b (check here) 2 → told_of (refused code 0)
-            ≡ pick b (told_of (last_answer k here)) no_record
-        go true q = ap told_of (unscheduled k code here q n).1
-        go false q = rw q refl
+  pub refuses_last : (k : ℕ) → told_of (refused code 0) ≡ last_told k l r c w
+  unfolding judged last_told pick
+  refuses_last k = go (is_record w) b.told
+    where
+      go : (y : Bool) → code ≡ pick y (check here) 2 → told_of (refused code 0)
+          ≡ pick y (told_of (last_answer k here)) no_record
+      go true q = ap told_of (unscheduled k code here q b.some).1
+      go false q = rw q refl
 
-    pub refuses_sum : (k : ℕ) → 0
-        ≡ face_count (λ s. fitted (changes_all (collects k) s)) l r c w
-    unfolding judged face_count fitted pick
-    refuses_sum k = go (is_record w) j
-      where
-        go : (b : Bool) → code ≡ pick b (check here) 2
-            → 0 ≡ pick b (fitted (changes_all (collects k) here)) 0
-        go true q = ap fitted (sym (sum_none (collects k) here (λ y. n (q ∙ y))))
-        go false q = refl
+  pub refuses_sum : (k : ℕ) → 0
+      ≡ face_count (λ s. fitted (changes_all (collects k) s)) l r c w
+  unfolding judged face_count fitted pick
+  refuses_sum k = go (is_record w) b.told
+    where
+      go : (y : Bool) → code ≡ pick y (check here) 2
+          → 0 ≡ pick y (fitted (changes_all (collects k) here)) 0
+      go true q = ap fitted (sym (sum_none (collects k) here (λ y. b.some (q ∙ y))))
+      go false q = refl

@@ -25,8 +25,8 @@ use Rattle.rules.specs.declared.Answer.{Answer}
 use Rattle.rules.specs.Table.{unless}
 use Rattle.rules.specs.Places.{arrive}
 use Rattle.rules.specs.Editor.{look}
-use Rattle.rules.specs.declared.Walk.{Walk}
-use Rattle.rules.specs.declared.Walk.TheVariants.{At, Damaged}
+use Rattle.rules.specs.Places.{Walk}
+use Rattle.std.specs.Prelude.{Ok, Err}
 use Rattle.rules.proofs.Laws.{step_looking}
 use Rattle.rules.proofs.Refused.{refused_stays}
 use Rattle.schedule.proofs.PartOfRun.{schedule_run}
@@ -42,8 +42,8 @@ use Rattle.jenturik_c.specs.Many.{FacedRun, faced_run, shown_run, face_run}
 module _ (s : State) where
   arrived : (w : Walk) (go : ℕ → Outcome) → ((n : ℕ) → (go n).state ≡ s) → (arrive s w go).state ≡ s
   unfolding arrive
-  arrived (At n) go p = p n
-  arrived (Damaged n side) go p = refl
+  arrived (Ok n) go p = p n
+  arrived (Err d) go p = refl
 
   pub look_stays : (p : Place) → (step (looking p) s).state ≡ s
   unfolding look unless

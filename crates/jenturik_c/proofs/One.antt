@@ -27,6 +27,7 @@ use Rattle.record_words.specs.Words.{words_of, record_of, is_record}
 use Rattle.record_words.proofs.RoundTrip.{words_back}
 use Rattle.jenturik_c.specs.Face.{Answered, Faced, faced, face, face_count, told_of}
 use Rattle.jenturik_c.specs.Face.{shown, fitted}
+use Rattle.jenturik_c.specs.Lent.{Passing}
 use Rattle.jenturik_c.specs.Many.{FacedRun, faced_run, shown_run, face_run, code_in, detail_in}
 use Rattle.jenturik_c.specs.Many.{last_of, last_told}
 use Rattle.jenturik_c.specs.declared.Last.{Last}
@@ -102,44 +103,46 @@ run_of z =
       words = z.words;
     }
 
-module _ (l r c w : List ℕ) (h : true ≡ is_record w) (p : 0 ≡ check (state l r c (record_of w)))
-  where
-    abbrev here : State
-    here = state l r c (record_of w)
+module _ (l r c w : List ℕ) (x : Record) (g : Passing l r c w x) where
+  abbrev here : State
+  here = state l r c (record_of w)
 
-    module _ (l' r' c' w' : List ℕ) (t : Answered)
-        (k : faced t l' r' c' w' ≡ face (step collecting) l r c w) where
-      is_shown : faced t l' r' c' w' ≡ shown (made here)
-      unfolding face
-      is_shown = k ∙ sym (pick_yes _ _ _ _ h refl)
+  fine : 0 ≡ check here
+  fine = g.code ∙ ap (λ (y : Record). check (state l r c y)) g.rec
 
-      told_so : t ≡ told_of (made here).answer
-      told_so = ap (λ (z : Faced). z.told) is_shown
+  module _ (l' r' c' w' : List ℕ) (t : Answered)
+      (k : faced t l' r' c' w' ≡ face (step collecting) l r c w) where
+    is_shown : faced t l' r' c' w' ≡ shown (made here)
+    unfolding face
+    is_shown = k ∙ sym (pick_yes _ _ _ _ g.words refl)
 
-      pub one_small : (t.code < 32) × (t.detail < 8)
-      one_small = rw (told_so, one_answer here p) (last_small 1 here)
+    told_so : t ≡ told_of (made here).answer
+    told_so = ap (λ (z : Faced). z.told) is_shown
 
-      run_shown : faced_run (pick (eqb t.code 0) 1 0) t.code t.detail l' r' c' w'
-          ≡ face_run (schedule (collects 1)) l r c w
-      unfolding face_run
-      run_shown = ap run_of is_shown ∙ pick_yes _ _ _ _ h (ap shown_run (one_run here p))
+    pub one_small : (t.code < 32) × (t.detail < 8)
+    one_small = rw (told_so, one_answer here fine) (last_small 1 here)
 
-      last_shown : t ≡ last_told 1 l r c w
-      unfolding last_told
-      last_shown = told_so ∙ pick_yes _ _ _ _ h (ap told_of (one_answer here p))
+    run_shown : faced_run (pick (eqb t.code 0) 1 0) t.code t.detail l' r' c' w'
+        ≡ face_run (schedule (collects 1)) l r c w
+    unfolding face_run
+    run_shown = ap run_of is_shown ∙ pick_yes _ _ _ _ g.words (ap shown_run (one_run here fine))
 
-      pub one_shown : (z : Last) → last_of z ≡ t → z.done ≡ pick (eqb t.code 0) 1 0
-          → (faced_run z.done (code_in z.code) (detail_in z.code) l' r' c' w'
-          ≡ face_run (schedule (collects 1)) l r c w) × (last_of z ≡ last_told 1 l r c w)
-      one_shown z e d =
-          let code = ap (λ (y : Answered). y.code) e in
-          let detail = ap (λ (y : Answered). y.detail) e in
-          (rw (d, code, detail) run_shown, e ∙ last_shown)
+    last_shown : t ≡ last_told 1 l r c w
+    unfolding last_told
+    last_shown = told_so ∙ pick_yes _ _ _ _ g.words (ap told_of (one_answer here fine))
 
-    pub one_count : (n : ℕ) → n ≡ face_count (changes collecting) l r c w
-        → n ≡ face_count (λ s. fitted (changes_all (collects 1) s)) l r c w
-    unfolding face_count
-    one_count n e =
-        let few = few_fit (changes collecting here) (most_one here) in
-        e ∙ sym (pick_yes _ _ _ _ h refl)
-        ∙ pick_yes _ _ _ _ h (few ∙ ap fitted (one_sum here))
+    pub one_shown : (z : Last) → last_of z ≡ t → z.done ≡ pick (eqb t.code 0) 1 0
+        → (faced_run z.done (code_in z.code) (detail_in z.code) l' r' c' w'
+        ≡ face_run (schedule (collects 1)) l r c w) × (last_of z ≡ last_told 1 l r c w)
+    one_shown z e d =
+        let code = ap (λ (y : Answered). y.code) e in
+        let detail = ap (λ (y : Answered). y.detail) e in
+        (rw (d, code, detail) run_shown, e ∙ last_shown)
+
+  pub one_count : (n : ℕ) → n ≡ face_count (changes collecting) l r c w
+      → n ≡ face_count (λ s. fitted (changes_all (collects 1) s)) l r c w
+  unfolding face_count
+  one_count n e =
+      let few = few_fit (changes collecting here) (most_one here) in
+      e ∙ sym (pick_yes _ _ _ _ g.words refl)
+      ∙ pick_yes _ _ _ _ g.words (few ∙ ap fitted (one_sum here))

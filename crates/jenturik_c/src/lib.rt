@@ -3,6 +3,8 @@
 #![tactic(auto)]
 
 ghost use Rattle.std.specs.Prelude.{◌≡◌, [], ◌∷◌, ◌+◌, ◌*◌, ◌/◌, ◌<◌, ◌≤◌, length, eqb, true};
+ghost use Rattle.std.specs.Prelude.{false, IfOk, IfErr, IfSome, IfNone};
+ghost use Rattle.rules.specs.Table.{refused};
 ghost use Rattle.base.specs.Choice.{pick};
 ghost use Rattle.rules.specs.Fresh.{fresh};
 ghost use Rattle.rules.specs.Load.{load};
@@ -12,25 +14,28 @@ ghost use Rattle.rules.specs.Steps.{step, taking, linking, shading, collecting, 
 ghost use Rattle.rules.specs.Schedules.{ran, schedule, collects};
 ghost use Rattle.rules.specs.Changes.{changes, changes_all};
 ghost use Rattle.freed.specs.Freed.{run_in, changes_in, appended_in, noted};
-ghost use Rattle.record_words.specs.Words.{is_record};
-ghost use Rattle.jenturik_c.specs.Face.{what_of, answered_of, told_of, no_record, shown, fitted};
+ghost use Rattle.record_words.specs.Words.{is_record, record_of};
+ghost use Rattle.jenturik_c.specs.Face.{what_of, answered_of, told_of, shown, fitted};
+ghost use Rattle.jenturik_c.specs.Face.{faced, face, face_count};
 ghost use Rattle.jenturik_c.specs.Face.{asking, Narrow};
 ghost use Rattle.jenturik_c.specs.Face.{place_of};
-ghost use Rattle.jenturik_c.specs.Flat.{STEP_WORDS, zeros, kind_at, of_kind, step_at, steps_of};
+ghost use Rattle.jenturik_c.specs.Flat.{STEP_WORDS, UNUSED, zeros, kind_at, step_at, steps_of};
 ghost use Rattle.jenturik_c.specs.Flat.{schedule_of, changes_of};
-ghost use Rattle.jenturik_c.specs.Many.{code_in, detail_in, last_of};
-ghost use Rattle.jenturik_c.specs.Lent.{tells, facing, runs, facing_run};
-ghost use Rattle.jenturik_c.specs.Lent.{facing_last, facing_count, facing_nodes, Stays, Passing};
+ghost use Rattle.jenturik_c.specs.Many.{code_in, detail_in, last_of, faced_run};
+ghost use Rattle.jenturik_c.specs.Many.{face_run, last_told, face_nodes};
+ghost use Rattle.jenturik_c.specs.Lent.{Stays, Passing, Barred};
 ghost use Rattle.jenturik_c.specs.Version.{VERSION};
 ghost use Rattle.rules.specs.Lent.{given};
 
 use rules::{Answer, Phase, Place, Ran, Record, Step};
+use schedule::Steps;
 
 // The library's version, as JENTURIK_VERSION_NUMBER of include/jenturik.h has it.
 const VERSION: u32 = 4007;
 
 // How many words a step of a schedule has, and the number of each, by the names of
 // include/jenturik.h. From UNUSED on they have no use.
+// Kept: numbers of places, the C interface: a schedule is one array of words there.
 const STEP_WORDS: usize = 12;
 
 const KIND: usize = 0;
@@ -52,10 +57,13 @@ const TOWORD: usize = 7;
 const UNUSED: usize = 8;
 
 // A kind that no step has.
+// Kept: a number, as `kind_at` has it: any kind above 4 is code 10.
 const NO_KIND: u32 = 4294967295;
 
 // What a call answers: what was done (0: refused), the code, the detail, the node, and how many
 // colours it changed.
+// Kept: this and the next three are structs of numbers, the C interface (include/jenturik.h). They
+// are made by hand, since each call fits its counts in its own way.
 #[repr(C)]
 #[derive(Clone, Copy)]
 pub struct Told {
@@ -103,6 +111,7 @@ pub struct Freed {
     pub detail: u8,
 }
 
+// Kept: what was done is a number, JENTURIK_NAMED and so on of include/jenturik.h, the C interface.
 fn what(a: Answer) -> u8
     ensures { result ≡ what_of a }
 {
@@ -122,48 +131,64 @@ fn what(a: Answer) -> u8
 }
 
 // The node and what was done have fewer bits than their fields.
-fn tell_narrow(a: Answer, changed: u8) -> Told
+fn tell(a: Answer, changed: u8) -> Told
     ensures result_value { answered_of result ≡ told_of a }
     ensures changed_value { result.changed ≡ changed }
     ensures narrow { Narrow result }
 {
     Told {
-        what: what(a) as u32,
-        code: a.code() as u16,
-        detail: a.detail() as u16,
-        node: a.node() as u32,
-        changed: changed as u32,
+        what: u32::from(what(a)),
+        code: u16::from(a.code()),
+        detail: u16::from(a.detail()),
+        node: u32::from(a.node()),
+        changed: u32::from(changed),
     }
-}
-
-fn tell(a: Answer, changed: u8) -> Told
-    ensures result_value { answered_of result ≡ told_of a }
-    ensures changed_value { result.changed ≡ changed }
-{
-    tell_narrow(a, changed)
 }
 
 // A sum in 32 bits: the largest number where it does not fit.
 fn fitted(n: usize) -> u32
     ensures { result ≡ fitted n }
 {
-    if n < 4294967295 {
-        return n as u32;
-    }
-    4294967295
+    u32::try_from(n).unwrap_or(u32::MAX)
 }
 
-// The answer to words that are no record's.
-fn no_record() -> Told
-    ensures result_value { answered_of result ≡ no_record }
+// The answer to a call that is refused with a code.
+fn refused(code: u8) -> Told
+    ensures result_value { answered_of result ≡ told_of (refused code 0) }
     ensures changed_value { result.changed ≡ 0 }
 {
-    Told {
-        what: 0,
-        code: 2,
-        detail: 0,
-        node: 0,
-        changed: 0,
+    tell(Answer::refused(code, 0), 0)
+}
+
+// Kept: here and in the calls below the slices, the words and the numbers of a place are parameters
+// of their own, the C interface.
+
+// The record that words are, where it passes with slices of these lengths; else code 1 or 2.
+// Kept: the error is a number: the codes are those of the rules (`judged` [C 4]), for C too.
+fn passed(
+    left: &[u16],
+    right: &[u16],
+    colour: &[u8],
+    words: &[u32; record_words::WORDS],
+) -> Result<Record, u8>
+    ensures ok { IfOk result (Passing left.now right.now colour.now words.now) }
+    ensures err { IfErr result (Barred left.now right.now colour.now words.now) }
+{
+    match record_words::judge(left.len(), right.len(), colour.len(), *words) {
+        0 => Ok(record_words::record_of(*words)),
+        code => Err(code),
+    }
+}
+
+// The record that words are, where they are one's.
+fn formed(words: &[u32; record_words::WORDS]) -> Option<Record>
+    ensures some { IfSome result (λ x. (true ≡ is_record words.now) × (x ≡ record_of words.now)) }
+    ensures none { IfNone result (false ≡ is_record words.now) }
+{
+    if record_words::is_record(*words) {
+        Some(record_words::record_of(*words))
+    } else {
+        None
     }
 }
 
@@ -185,17 +210,15 @@ pub extern "C" fn jenturik_fresh(
     nodes: u32,
     slots: u32,
 ) -> Told
-    ensures words_value { tells result left.new right.new colour.new words.new
+    ensures words_value { faced (answered_of result) left.new right.new colour.new words.new
         ≡ shown (fresh nodes slots (left.old ∷ right.old ∷ []) colour.old) }
     ensures true_value { true ≡ is_record words.new }
     ensures changed_value { result.changed ≡ 0 }
 {
+    // Kept: `as`, here and in the load: std has no `From` of 32 bits to `usize`, and each fits.
     let made = fresh::fresh(left, right, colour, nodes as usize, slots as usize);
-    let rec = made.rec;
-    let answer = made.answer;
-    let v = record_words::words_of(rec);
-    *words = v;
-    tell(answer, 0)
+    *words = record_words::words_of(made.rec);
+    tell(made.answer, 0)
 }
 
 // A table with the edges of two lists; the words are written whatever they were.
@@ -210,7 +233,7 @@ pub extern "C" fn jenturik_load(
     nodes: u32,
     slots: u32,
 ) -> Told
-    ensures words_value { tells result left.new right.new colour.new words.new
+    ensures words_value { faced (answered_of result) left.new right.new colour.new words.new
         ≡ shown (load nodes slots (lefts.now ∷ rights.now ∷ []) (left.old ∷ right.old ∷ [])
         colour.old) }
     ensures true_value { true ≡ is_record words.new }
@@ -225,11 +248,8 @@ pub extern "C" fn jenturik_load(
         nodes as usize,
         slots as usize,
     );
-    let rec = made.rec;
-    let answer = made.answer;
-    let v = record_words::words_of(rec);
-    *words = v;
-    tell(answer, 0)
+    *words = record_words::words_of(made.rec);
+    tell(made.answer, 0)
 }
 
 // Names the node at a place.
@@ -243,23 +263,20 @@ pub extern "C" fn jenturik_look(
     count: u32,
     word: u32,
 ) -> Told
-    ensures words_value { tells result left.now right.now colour.now words.now
-        ≡ facing (step (looking (place_of slot count word))) left.now right.now colour.now
+    ensures words_value { faced (answered_of result) left.now right.now colour.now words.now
+        ≡ face (step (looking (place_of slot count word))) left.now right.now colour.now
         words.now }
     ensures changed_value { result.changed
-        ≡ facing_count (changes (looking (place_of slot count word))) left.now right.now colour.now
+        ≡ face_count (changes (looking (place_of slot count word))) left.now right.now colour.now
         words.now }
 {
-    let w = *words;
-    let code = record_words::judge(left.len(), right.len(), colour.len(), w);
-    if code != 0 {
-        return tell(Answer::refused(code, 0), 0);
-    }
+    let x = match passed(left, right, colour, words) {
+        Ok(x) => x,
+        Err(code) => return refused(code),
+    };
     let p = Place { slot, count, word };
-    let made = editor::look_passed(left, right, colour, record_words::record_of(w), p);
-    let answer = made.answer;
-    let changed = made.changed;
-    tell(answer, changed)
+    let made = editor::look_passed(left, right, colour, x, p);
+    tell(made.answer, made.changed)
 }
 
 // How many nodes some slot reaches; nothing is written.
@@ -270,16 +287,14 @@ pub extern "C" fn jenturik_in_use(
     colour: &[u8],
     words: &[u32; record_words::WORDS],
 ) -> Told
-    ensures words_value { tells result left.now right.now colour.now words.now
-        ≡ facing (asking in_use) left.now right.now colour.now words.now }
+    ensures words_value { faced (answered_of result) left.now right.now colour.now words.now
+        ≡ face (asking in_use) left.now right.now colour.now words.now }
     ensures changed_value { result.changed ≡ 0 }
 {
-    let w = *words;
-    if !record_words::is_record(w) {
-        return no_record();
-    }
-    let answer = in_use::in_use(left, right, colour, record_words::record_of(w));
-    tell(answer, 0)
+    let Some(x) = formed(words) else {
+        return refused(2);
+    };
+    tell(in_use::in_use(left, right, colour, x), 0)
 }
 
 // How many nodes are free; nothing is written.
@@ -290,16 +305,14 @@ pub extern "C" fn jenturik_free_count(
     colour: &[u8],
     words: &[u32; record_words::WORDS],
 ) -> Told
-    ensures words_value { tells result left.now right.now colour.now words.now
-        ≡ facing (asking free_count) left.now right.now colour.now words.now }
+    ensures words_value { faced (answered_of result) left.now right.now colour.now words.now
+        ≡ face (asking free_count) left.now right.now colour.now words.now }
     ensures changed_value { result.changed ≡ 0 }
 {
-    let w = *words;
-    let code = record_words::judge(left.len(), right.len(), colour.len(), w);
-    if code != 0 {
-        return tell(Answer::refused(code, 0), 0);
-    }
-    let x = record_words::record_of(w);
+    let x = match passed(left, right, colour, words) {
+        Ok(x) => x,
+        Err(code) => return refused(code),
+    };
     tell(Answer::Counted(x.free), 0)
 }
 
@@ -318,31 +331,27 @@ pub extern "C" fn jenturik_link(
     tocount: u32,
     toword: u32,
 ) -> Told
-    ensures words_value { tells result left.new right.new colour.now words.new
-        ≡ facing (step (linking (place_of slot count word) side (place_of toslot tocount toword)))
+    ensures words_value { faced (answered_of result) left.new right.new colour.now words.new
+        ≡ face (step (linking (place_of slot count word) side (place_of toslot tocount toword)))
         left.old right.old colour.now words.old }
     ensures stays { Stays words.old words.new }
     ensures changed_value { result.changed
-        ≡ facing_count (changes (linking (place_of slot count word) side
+        ≡ face_count (changes (linking (place_of slot count word) side
         (place_of toslot tocount toword))) left.old right.old colour.now words.old }
 {
-    let w = *words;
-    let code = record_words::judge(left.len(), right.len(), colour.len(), w);
-    if code != 0 {
-        return tell(Answer::refused(code, 0), 0);
-    }
+    let x = match passed(left, right, colour, words) {
+        Ok(x) => x,
+        Err(code) => return refused(code),
+    };
     let p = Place { slot, count, word };
     let q = Place {
         slot: toslot,
         count: tocount,
         word: toword,
     };
-    let made = editor::link_passed(left, right, colour, record_words::record_of(w), p, side, q);
-    let rec = made.rec;
-    let answer = made.answer;
-    let changed = made.changed;
-    record_words::put_owed(words, rec);
-    tell(answer, changed)
+    let made = editor::link_passed(left, right, colour, x, p, side, q);
+    record_words::put_owed(words, made.rec);
+    tell(made.answer, made.changed)
 }
 
 // Shades the node owed.
@@ -353,23 +362,19 @@ pub extern "C" fn jenturik_shade(
     colour: &mut [u8],
     words: &mut [u32; record_words::WORDS],
 ) -> Told
-    ensures words_value { tells result left.now right.now colour.new words.new
-        ≡ facing (step shading) left.now right.now colour.old words.old }
+    ensures words_value { faced (answered_of result) left.now right.now colour.new words.new
+        ≡ face (step shading) left.now right.now colour.old words.old }
     ensures stays { Stays words.old words.new }
     ensures changed_value { result.changed
-        ≡ facing_count (changes shading) left.now right.now colour.old words.old }
+        ≡ face_count (changes shading) left.now right.now colour.old words.old }
 {
-    let w = *words;
-    let code = record_words::judge(left.len(), right.len(), colour.len(), w);
-    if code != 0 {
-        return tell(Answer::refused(code, 0), 0);
-    }
-    let made = editor::shade_passed(left, right, colour, record_words::record_of(w));
-    let rec = made.rec;
-    let answer = made.answer;
-    let changed = made.changed;
-    record_words::put_owed(words, rec);
-    tell(answer, changed)
+    let x = match passed(left, right, colour, words) {
+        Ok(x) => x,
+        Err(code) => return refused(code),
+    };
+    let made = editor::shade_passed(left, right, colour, x);
+    record_words::put_owed(words, made.rec);
+    tell(made.answer, made.changed)
 }
 
 // Points the source's edge on a side to the first free node.
@@ -384,26 +389,22 @@ pub extern "C" fn jenturik_take(
     word: u32,
     side: u32,
 ) -> Told
-    ensures words_value { tells result left.new right.new colour.new words.new
-        ≡ facing (step (taking (place_of slot count word) side)) left.old right.old colour.old
+    ensures words_value { faced (answered_of result) left.new right.new colour.new words.new
+        ≡ face (step (taking (place_of slot count word) side)) left.old right.old colour.old
         words.old }
     ensures stays { Stays words.old words.new }
     ensures changed_value { result.changed
-        ≡ facing_count (changes (taking (place_of slot count word) side)) left.old right.old
+        ≡ face_count (changes (taking (place_of slot count word) side)) left.old right.old
         colour.old words.old }
 {
-    let w = *words;
-    let code = record_words::judge(left.len(), right.len(), colour.len(), w);
-    if code != 0 {
-        return tell(Answer::refused(code, 0), 0);
-    }
+    let x = match passed(left, right, colour, words) {
+        Ok(x) => x,
+        Err(code) => return refused(code),
+    };
     let p = Place { slot, count, word };
-    let made = take::take_passed(left, right, colour, record_words::record_of(w), p, side);
-    let rec = made.rec;
-    let answer = made.answer;
-    let changed = made.changed;
-    record_words::put_free(words, rec);
-    tell(answer, changed)
+    let made = take::take_passed(left, right, colour, x, p, side);
+    record_words::put_free(words, made.rec);
+    tell(made.answer, made.changed)
 }
 
 // The collector's step in the record's phase. A refused one leaves the words, so they are not
@@ -418,26 +419,25 @@ fn in_phase(
 ) -> Told
     requires passing { Passing left.old right.old colour.old words.old x }
     requires phase_value { phase ≡ x.phase }
-    ensures words_value { tells result left.new right.new colour.new words.new
-        ≡ facing (step collecting) left.old right.old colour.old words.old }
+    ensures words_value { faced (answered_of result) left.new right.new colour.new words.new
+        ≡ face (step collecting) left.old right.old colour.old words.old }
     ensures true_value { true ≡ is_record words.new }
     ensures changed_value { result.changed
-        ≡ facing_count (changes collecting) left.old right.old colour.old words.old }
+        ≡ face_count (changes collecting) left.old right.old colour.old words.old }
     ensures narrow { Narrow result }
 {
     let made = collector::phase_step(left, right, colour, x, phase);
-    let rec = made.rec;
-    let answer = made.answer;
-    let changed = made.changed;
-    if answer.code() != 0 {
-        return tell_narrow(answer, changed);
+    if made.answer.code() != 0 {
+        return tell(made.answer, made.changed);
     }
-    record_words::put_step(words, rec);
-    tell_narrow(answer, changed)
+    record_words::put_step(words, made.rec);
+    tell(made.answer, made.changed)
 }
 
 // The collector's step. Each phase has a call of its own, which the compiler makes a path of its
-// own up to the answer: where the paths meet before it, a call takes a fifth longer.
+// own up to the answer.
+// Kept: tried as one call with the record's phase: the paths meet before the answer then, and
+// jenturik_collect takes 7 % longer, 24.1 ns and not 22.5.
 fn any_phase(
     left: &mut [u16],
     right: &mut [u16],
@@ -446,11 +446,11 @@ fn any_phase(
     x: Record,
 ) -> Told
     requires { Passing left.old right.old colour.old words.old x }
-    ensures words_value { tells result left.new right.new colour.new words.new
-        ≡ facing (step collecting) left.old right.old colour.old words.old }
+    ensures words_value { faced (answered_of result) left.new right.new colour.new words.new
+        ≡ face (step collecting) left.old right.old colour.old words.old }
     ensures true_value { true ≡ is_record words.new }
     ensures changed_value { result.changed
-        ≡ facing_count (changes collecting) left.old right.old colour.old words.old }
+        ≡ face_count (changes collecting) left.old right.old colour.old words.old }
     ensures narrow { Narrow result }
 {
     let phase = x.phase;
@@ -474,22 +474,21 @@ pub extern "C" fn jenturik_collect(
     colour: &mut [u8],
     words: &mut [u32; record_words::WORDS],
 ) -> Told
-    ensures words_value { tells result left.new right.new colour.new words.new
-        ≡ facing (step collecting) left.old right.old colour.old words.old }
+    ensures words_value { faced (answered_of result) left.new right.new colour.new words.new
+        ≡ face (step collecting) left.old right.old colour.old words.old }
     ensures stays { Stays words.old words.new }
     ensures changed_value { result.changed
-        ≡ facing_count (changes collecting) left.old right.old colour.old words.old }
+        ≡ face_count (changes collecting) left.old right.old colour.old words.old }
 {
-    let w = *words;
-    let code = record_words::judge(left.len(), right.len(), colour.len(), w);
-    if code != 0 {
-        return tell(Answer::refused(code, 0), 0);
-    }
-    let x = record_words::record_of(w);
+    let x = match passed(left, right, colour, words) {
+        Ok(x) => x,
+        Err(code) => return refused(code),
+    };
     any_phase(left, right, colour, words, x)
 }
 
 // A code and a detail in one byte.
+// Kept: two numbers in one, the C interface: `code` of jenturik_last has them so.
 fn packed(code: u8, detail: u8) -> u8
     requires code_bound { code < 32 }
     requires detail_bound { detail < 8 }
@@ -503,13 +502,11 @@ fn packed(code: u8, detail: u8) -> u8
 fn one_done(code: u16) -> usize
     ensures { result ≡ pick (eqb code 0) 1 0 }
 {
-    if code == 0 {
-        return 1;
-    }
-    0
+    usize::from(code == 0)
 }
 
 // What one step answers, as the last of many.
+// Kept: the casts narrow by `as`: that each number fits is required (`Narrow` and the two bounds).
 fn last_of(t: Told) -> Last
     requires narrow { Narrow t }
     requires code_bound { t.code < 32 }
@@ -518,13 +515,16 @@ fn last_of(t: Told) -> Last
     ensures done_value { result.done ≡ pick (eqb t.code 0) 1 0 }
     ensures changed_value { result.changed ≡ t.changed }
 {
-    let what = t.what;
-    let code = t.code;
-    let detail = t.detail;
-    let node = t.node;
+    let Told {
+        what,
+        code,
+        detail,
+        node,
+        changed,
+    } = t;
     Last {
         done: one_done(code),
-        changed: t.changed,
+        changed,
         node: node as u16,
         what: what as u8,
         code: packed(code as u8, detail as u8),
@@ -541,34 +541,33 @@ pub extern "C" fn jenturik_collect_many(
     words: &mut [u32; record_words::WORDS],
     n: usize,
 ) -> Last
-    ensures words_value { runs result.done (code_in result.code) (detail_in result.code) left.new
-        right.new colour.new words.new
-        ≡ facing_run (schedule (collects n)) left.old right.old colour.old words.old }
-    ensures result_value { last_of result ≡ facing_last n left.old right.old colour.old words.old }
+    ensures words_value { faced_run result.done (code_in result.code) (detail_in result.code)
+        left.new right.new colour.new words.new
+        ≡ face_run (schedule (collects n)) left.old right.old colour.old words.old }
+    ensures result_value { last_of result ≡ last_told n left.old right.old colour.old words.old }
     ensures stays { Stays words.old words.new }
     ensures changed_value { result.changed
-        ≡ facing_count (λ s. fitted (changes_all (collects n) s)) left.old right.old colour.old
+        ≡ face_count (λ s. fitted (changes_all (collects n) s)) left.old right.old colour.old
         words.old }
 {
-    let w = *words;
-    let code = record_words::judge(left.len(), right.len(), colour.len(), w);
-    if code != 0 {
-        return Last {
-            done: 0,
-            changed: 0,
-            node: 0,
-            what: 0,
-            code: packed(code, 0),
-        };
-    }
-    let x = record_words::record_of(w);
+    let x = match passed(left, right, colour, words) {
+        Ok(x) => x,
+        Err(code) => {
+            return Last {
+                done: 0,
+                changed: 0,
+                node: 0,
+                what: 0,
+                code: packed(code, 0),
+            };
+        }
+    };
     if n == 1 {
         return last_of(any_phase(left, right, colour, words, x));
     }
     let many = batch::all_steps(left, right, colour, x, rules::bound(x.m, x.r), n);
-    let rec = many.rec;
+    record_words::put_step(words, many.rec);
     let answer = many.answer;
-    record_words::put_step(words, rec);
     Last {
         done: many.done,
         changed: fitted(many.changed),
@@ -589,21 +588,20 @@ pub extern "C" fn jenturik_collect_freed(
     n: usize,
     list: &mut [u16],
 ) -> Freed
-    ensures words_value { runs result.done result.code result.detail left.new right.new colour.new
-        words.new
-        ≡ facing_run (run_in n list.old) left.old right.old colour.old words.old }
+    ensures words_value { faced_run result.done result.code result.detail left.new right.new
+        colour.new words.new
+        ≡ face_run (run_in n list.old) left.old right.old colour.old words.old }
     ensures stays { Stays words.old words.new }
     ensures changed_value { result.changed
-        ≡ facing_count (λ s. fitted (changes_in n list.old s)) left.old right.old colour.old
+        ≡ face_count (λ s. fitted (changes_in n list.old s)) left.old right.old colour.old
         words.old }
     ensures list_value { list.new
-        ≡ noted (facing_nodes (appended_in n list.old) left.old right.old colour.old words.old)
+        ≡ noted (face_nodes (appended_in n list.old) left.old right.old colour.old words.old)
         list.old }
     ensures freed_value { result.freed
-        ≡ length (facing_nodes (appended_in n list.old) left.old right.old colour.old words.old) }
+        ≡ length (face_nodes (appended_in n list.old) left.old right.old colour.old words.old) }
 {
-    let w = *words;
-    if !record_words::is_record(w) {
+    let Some(x) = formed(words) else {
         return Freed {
             done: 0,
             changed: 0,
@@ -611,11 +609,9 @@ pub extern "C" fn jenturik_collect_freed(
             code: 2,
             detail: 0,
         };
-    }
-    let all = freed::collect_freed(left, right, colour, record_words::record_of(w), n, list);
-    let rec = all.rec;
-    let v = record_words::words_of(rec);
-    *words = v;
+    };
+    let all = freed::collect_freed(left, right, colour, x, n, list);
+    *words = record_words::words_of(all.rec);
     Freed {
         done: all.done,
         changed: fitted(all.changed),
@@ -625,51 +621,20 @@ pub extern "C" fn jenturik_collect_freed(
     }
 }
 
-// Whether four words from the n-th on are 0.
-fn zeros(steps: &[u32], n: usize) -> bool
-    requires { n + 4 ≤ length steps.now }
-    ensures { result ≡ zeros steps.now n }
+// Whether the words of a step that have no use are 0.
+fn zeros(step: &[u32]) -> bool
+    requires { length step.now ≡ STEP_WORDS }
+    ensures { result ≡ zeros step.now UNUSED }
 {
-    if steps[n] != 0 {
-        return false;
-    }
-    if steps[n + 1] != 0 {
-        return false;
-    }
-    if steps[n + 2] != 0 {
-        return false;
-    }
-    steps[n + 3] == 0
+    step[UNUSED..].iter().all(|&word| word == 0)
 }
 
-// The kind of the i-th step: none that can be read where a word without a use is not 0.
-fn kind_at(steps: &[u32], i: usize) -> u32
-    requires { STEP_WORDS * i + STEP_WORDS ≤ length steps.now }
-    ensures { result ≡ kind_at steps.now i }
+// The kind of the step that words are: none that can be read where a word without a use is not 0.
+fn kind_of(step: &[u32]) -> u32
+    requires { length step.now ≡ STEP_WORDS }
+    ensures { result ≡ kind_at step.now 0 }
 {
-    let at = STEP_WORDS * i;
-    if !zeros(steps, at + UNUSED) {
-        return NO_KIND;
-    }
-    steps[at + KIND]
-}
-
-// The i-th step, of a kind.
-fn of_kind(steps: &[u32], i: usize, kind: u32) -> Step
-    requires { STEP_WORDS * i + STEP_WORDS ≤ length steps.now }
-    ensures { result ≡ of_kind steps.now i kind }
-{
-    let at = STEP_WORDS * i;
-    Step {
-        kind,
-        slot: steps[at + SLOT],
-        count: steps[at + COUNT],
-        word: steps[at + WORD],
-        side: steps[at + SIDE],
-        toslot: steps[at + TOSLOT],
-        tocount: steps[at + TOCOUNT],
-        toword: steps[at + TOWORD],
-    }
+    if zeros(step) { step[KIND] } else { NO_KIND }
 }
 
 // The i-th step of a schedule of words.
@@ -677,7 +642,36 @@ fn step_at(steps: &[u32], i: usize) -> Step
     requires { STEP_WORDS * i + STEP_WORDS ≤ length steps.now }
     ensures { result ≡ step_at steps.now i }
 {
-    of_kind(steps, i, kind_at(steps, i))
+    let at = STEP_WORDS * i;
+    let step = &steps[at..at + STEP_WORDS];
+    Step {
+        kind: kind_of(step),
+        slot: step[SLOT],
+        count: step[COUNT],
+        word: step[WORD],
+        side: step[SIDE],
+        toslot: step[TOSLOT],
+        tocount: step[TOCOUNT],
+        toword: step[TOWORD],
+    }
+}
+
+// A schedule as words: its whole steps.
+#[derive(Clone, Copy)]
+struct Words<'a> {
+    words: &'a [u32],
+}
+
+impl<'a> Steps for Words<'a> {
+    ghost list = { λ s. steps_of s.words.now };
+
+    fn count(&self) -> usize {
+        self.words.len() / STEP_WORDS
+    }
+
+    fn at(&self, i: usize) -> Step {
+        step_at(self.words, i)
+    }
 }
 
 // The whole steps of a schedule of words, in order until one is refused.
@@ -687,24 +681,7 @@ fn follow(steps: &[u32], left: &mut [u16], right: &mut [u16], colour: &mut [u8],
     ensures changed_value { result.changed
         ≡ changes_all (steps_of steps.now) (given left.old right.old colour.old x) }
 {
-    let mut g = schedule::begin(
-        left.len(),
-        right.len(),
-        colour.len(),
-        x,
-        steps.len() / STEP_WORDS,
-    );
-    while g.at < g.end {
-        g = schedule::advance(left, right, colour, g, step_at(steps, g.at));
-    }
-    let rec = g.rec;
-    Ran {
-        done: g.at,
-        code: g.code,
-        detail: g.detail,
-        changed: g.changed,
-        rec,
-    }
+    schedule::run(&Words { words: steps }, left, right, colour, x)
 }
 
 // A schedule of words: none of it is done where the last step lacks some.
@@ -741,30 +718,28 @@ pub extern "C" fn jenturik_schedule(
     words: &mut [u32; record_words::WORDS],
     steps: &[u32],
 ) -> Done
-    ensures words_value { runs result.done result.code result.detail left.new right.new colour.new
-        words.new
-        ≡ facing_run (schedule_of steps.now) left.old right.old colour.old words.old }
+    ensures words_value { faced_run result.done result.code result.detail left.new right.new
+        colour.new words.new
+        ≡ face_run (schedule_of steps.now) left.old right.old colour.old words.old }
     ensures stays { Stays words.old words.new }
     ensures changed_value { result.changed
-        ≡ facing_count (λ s. fitted (changes_of steps.now s)) left.old right.old colour.old
+        ≡ face_count (λ s. fitted (changes_of steps.now s)) left.old right.old colour.old
         words.old }
 {
-    let w = *words;
-    if !record_words::is_record(w) {
+    let Some(x) = formed(words) else {
         return Done {
             done: 0,
             code: 2,
             detail: 0,
             changed: 0,
         };
-    }
-    let ran = schedule_of(steps, left, right, colour, record_words::record_of(w));
-    let rec = ran.rec;
-    record_words::put(words, rec);
+    };
+    let ran = schedule_of(steps, left, right, colour, x);
+    record_words::put(words, ran.rec);
     Done {
         done: ran.done,
-        code: ran.code as u16,
-        detail: ran.detail as u16,
+        code: u16::from(ran.code),
+        detail: u16::from(ran.detail),
         changed: fitted(ran.changed),
     }
 }

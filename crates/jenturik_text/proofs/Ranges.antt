@@ -15,8 +15,8 @@ use Rattle.text.specs.Grammar.{read}
 use Rattle.text.specs.Answers.{Written, written, contents, put, put_all}
 use Rattle.text.specs.declared.Said.{Said}
 use Rattle.text.specs.declared.Said.TheVariants.{First, Do, Collect, Unreadable}
-use Rattle.text.specs.declared.Listed.{Listed}
-use Rattle.text.specs.declared.Listed.TheVariants.{Edges, Stray}
+use Rattle.std.specs.Prelude.{Option, Some, None}
+use Rattle.text.specs.declared.Edges.{Edges}
 use Rattle.text.proofs.Outputs.{put_full, put_longer}
 use Rattle.lines.specs.Lines.{Line, opened}
 use Rattle.session.specs.Feeding.{newline, keeps, fold, ended, Stand, moved, begun, stopped}
@@ -110,15 +110,15 @@ module _ (m : ℕ) (h : m ≤ 65535) where
         (Stopped m) (λ _. h) (λ _. h);
   }
 
-  noting_ranged : (n : ℕ) (x : Listed) (s : Stand) → Lined s.going.line
+  noting_ranged : (n : ℕ) (x : Option Edges) (s : Stand) → Lined s.going.line
       → s.going.state.rec.m ≤ 65535 → Ranged (noting m n x s)
   unfolding noting
-  noting_ranged n (Edges a b) s l r =
+  noting_ranged n (Some e) s l r =
       split Ranged _ _ _
       (λ e. let k = ltb-true (n + 1) s.going.state.rec.m e in
       record { line = anew s.going.line l; stage = (h, omega (arith, k, r), r) })
       (λ _. filled_ranged _ l)
-  noting_ranged n Stray s l r = stopped_ranged s l
+  noting_ranged n None s l r = stopped_ranged s l
 
   step_ranged : (s : Stand) → Lined s.going.line → Ranged (moved (Serving m) (ended s.going) s)
   unfolding ended

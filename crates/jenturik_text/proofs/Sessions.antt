@@ -13,6 +13,7 @@ use Rattle.rules.specs.declared.Record.{Record}
 use Rattle.record_words.specs.Words.{word, is_record, within, flagged}
 use Rattle.record_words.specs.Words as record-words
 use Rattle.record_words.proofs.RoundTrip.{record_back, words_back as record-back-words}
+use Rattle.record_words.proofs.RoundTrip.{part, parts, whole_words}
 use Rattle.session.specs.Feeding.{keeps, held, started}
 use Rattle.session.specs.declared.Session.{Session}
 use Rattle.session.specs.declared.Stage.{Stage}
@@ -21,7 +22,6 @@ use Rattle.session.specs.declared.Stage.TheVariants.{Over, Stopped}
 use Rattle.jenturik_text.specs.Words.{WORDS, tag_of, entry_of, laid_out, words_of, record_part}
 use Rattle.jenturik_text.specs.Words.{stage_of, session_of, most_table, most_entry, all_zero}
 use Rattle.jenturik_text.specs.Words.{is_session, Fits, STAGE, TABLE, ENTRY, AT}
-use Rattle.jenturik_text.proofs.Parts.{part, record_words_first, whole_words}
 
 stage_back : (st : Stage) → stage_of (tag_of st) (held st) (entry_of st) ≡ st
 unfolding stage_of pick
@@ -103,17 +103,13 @@ is_session_lem st x at r m n h =
     (every_skip _ _ _ (le_yes _ _ (entry_most st n)) (every_skip _ _ _ (le_yes _ _ h)
     (every_last _ _ no_use))))))
 
-pub words_are : (s : Session) (w v : List ℕ) (tag m n : ℕ) → Fits s
-    → w ≡ laid_out v tag m n s.run.at → v ≡ record-words.words_of s.run.rec
-    → true ≡ is_record v → tag ≡ tag_of s.stage → m ≡ held s.stage → n ≡ entry_of s.stage
-    → (w ≡ words_of s.stage s.run.rec s.run.at) × (true ≡ is_session w)
-words_are s w v tag m n f e q r p a b =
-    let same : w ≡ words_of s.stage s.run.rec s.run.at = e ∙ rw (q, p, a, b) in
-    let rec = subst (λ (u : List ℕ). true ≡ is_record u) q r in (
-      same,
-      subst (λ (u : List ℕ). true ≡ is_session u) (sym same)
-          (is_session_lem s.stage s.run.rec s.run.at rec f.table f.entry f.at),
-    )
+pub words_are : (s : Session) (w v : List ℕ) → Fits s
+    → w ≡ words_of s.stage s.run.rec s.run.at → v ≡ record-words.words_of s.run.rec
+    → true ≡ is_record v → true ≡ is_session w
+words_are s w v f e q r =
+    let rec = subst (λ (u : List ℕ). true ≡ is_record u) q r in
+    subst (λ (u : List ℕ). true ≡ is_session u) (sym e)
+    (is_session_lem s.stage s.run.rec s.run.at rec f.table f.entry f.at)
 
 pub record_in_lem : (w : List ℕ) → true ≡ is_session w → true ≡ is_record (record_part w)
 unfolding is_session
@@ -132,7 +128,7 @@ words_back w e =
     let s = stage_there (word w STAGE) (word w TABLE) (word w ENTRY) tag m n in
     let size : length w ≡ WORDS = eqb-true _ _ t.0 in
     let r = record-back-words (record_part w) (record_in_lem w e)
-    ∙ sym (record_words_first w size) in
+    ∙ parts w record-words.WORDS 0 (omega (arith, size)) in
     let z0 : word w 28 ≡ 0 = eqb-true _ _ z.0 in
     let z1 : word w 29 ≡ 0 = eqb-true _ _ z.1.0 in
     let z2 : word w 30 ≡ 0 = eqb-true _ _ z.1.1.0 in
@@ -142,7 +138,7 @@ words_back w e =
     (word w AT)
     ≡ part w 0 WORDS = rw (s.tag_is, s.table_is, s.entry_is, z0, z1, z2, z3) in
     ap (λ (v : List ℕ). laid_out v (tag_of st) (held st) (entry_of st) (word w AT)) r ∙ same
-    ∙ whole_words w size
+    ∙ sym (whole_words w WORDS size)
 
 no_record_lem : true ≡ is_record (record-words.words_of (fresh_record 0 0 0 0))
 unfolding is_record within flagged pick every

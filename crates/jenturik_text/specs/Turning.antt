@@ -75,17 +75,6 @@ turns w l k c ls rs line out input =
     let code = judged (length line) w in
     pick (eqb code 0) (done (turn (length input) input s)) (spurned code w s)
 
--- the slices as they are, and as they were
-abbrev pub leaves : Turned → List ℕ → List ℕ → List ℕ → List ℕ → List ℕ → List ℕ → List ℕ → List ℕ
-    → Left
-leaves t words l k c ls rs line out =
-    left t words l k c ls rs line out
-
-abbrev pub turning : List ℕ → List ℕ → List ℕ → List ℕ → List ℕ → List ℕ → List ℕ → List ℕ → List ℕ
-    → Left
-turning words l k c ls rs line out input =
-    turns words l k c ls rs line out input
-
 -- [Text 6] words that were a session's are a session's
 abbrev pub Stays : List ℕ → List ℕ → Type 0
 Stays was is = true ≡ is_session was → true ≡ is_session is

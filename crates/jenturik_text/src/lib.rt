@@ -2,19 +2,21 @@
 // buffers and a session's words, which the caller keeps.
 #![tactic(auto)]
 
-ghost use Rattle.std.specs.Prelude.{◌≡◌, true};
+ghost use Rattle.std.specs.Prelude.{◌≡◌, true, IfOk, IfErr};
+ghost use Rattle.record_words.specs.Words.{word};
 ghost use Rattle.session.specs.Feeding.{held};
-ghost use Rattle.jenturik_text.specs.Words.{tag_of, entry_of, laid_out, words_of};
+ghost use Rattle.jenturik_text.specs.Words.{tag_of, entry_of, words_of};
 ghost use Rattle.jenturik_text.specs.Words.{record_part};
 ghost use Rattle.jenturik_text.specs.Words.{stage_of, most_table, most_entry, all_zero};
 ghost use Rattle.jenturik_text.specs.Words.{is_session, session_of, Fits};
 ghost use Rattle.jenturik_text.specs.Turning.{over_of, judged, answered, answered_of};
-ghost use Rattle.jenturik_text.specs.Turning.{leaves, turning, Stays};
+ghost use Rattle.jenturik_text.specs.Turning.{left as leaves, turns, Stays};
 
 use session::{Run, Session, Stage};
 
 // How many words there are, and the number of each behind the record's, by the names of
 // include/jenturik_text.h.
+// Kept: numbers of places in one array, the C interface: a caller in C keeps the session as words.
 pub const WORDS: usize = 32;
 
 const STAGE: usize = 24;
@@ -25,8 +27,12 @@ const ENTRY: usize = 26;
 
 const AT: usize = 27;
 
+const UNUSED: usize = 28;
+
 // What a block answers: how many bytes of the output are printed, the code, and whether the run is
 // over: 0 it goes on, 1 the first line was refused, 2 the export was.
+// Kept: a struct of numbers, the C interface (include/jenturik_text.h); made by `told` and no
+// `From`, since a refused block has no session.
 #[repr(C)]
 #[derive(Clone, Copy)]
 pub struct Turned {
@@ -36,16 +42,17 @@ pub struct Turned {
     pub zero: u32,
 }
 
+// Kept: a stage is a number among the words, the C interface; `stage_of` reads it back.
 fn tag(stage: Stage) -> u32
     ensures { result ≡ tag_of stage }
 {
     match stage {
         Stage::Opening => 0,
-        Stage::Second(_) => 1,
-        Stage::Loading(_, _) => 2,
-        Stage::Serving(_) => 3,
+        Stage::Second(..) => 1,
+        Stage::Loading(..) => 2,
+        Stage::Serving(..) => 3,
         Stage::Over => 4,
-        Stage::Stopped(_) => 5,
+        Stage::Stopped(..) => 5,
     }
 }
 
@@ -54,12 +61,8 @@ fn table(stage: Stage) -> usize
     ensures { result ≡ held stage }
 {
     match stage {
-        Stage::Opening => 0,
-        Stage::Second(m) => m,
-        Stage::Loading(m, _) => m,
-        Stage::Serving(m) => m,
-        Stage::Over => 0,
-        Stage::Stopped(m) => m,
+        Stage::Opening | Stage::Over => 0,
+        Stage::Second(m) | Stage::Loading(m, _) | Stage::Serving(m) | Stage::Stopped(m) => m,
     }
 }
 
@@ -68,134 +71,84 @@ fn entry(stage: Stage) -> usize
     ensures { result ≡ entry_of stage }
 {
     match stage {
-        Stage::Opening => 0,
-        Stage::Second(_) => 0,
         Stage::Loading(_, n) => n,
-        Stage::Serving(_) => 0,
-        Stage::Over => 0,
-        Stage::Stopped(_) => 0,
+        _ => 0,
     }
 }
 
-fn laid_out(v: [u32; record_words::WORDS], tag: u32, m: u32, n: u32, at: u32) -> [u32; WORDS]
-    ensures { result ≡ laid_out v tag m n at }
-{
-    [
-        v[0], v[1], v[2], v[3], v[4], v[5], v[6], v[7], v[8], v[9], v[10], v[11], v[12], v[13],
-        v[14], v[15], v[16], v[17], v[18], v[19], v[20], v[21], v[22], v[23], tag, m, n, at, 0, 0,
-        0, 0,
-    ]
-}
-
 // The session's words; the output is not among them.
+// Kept: the casts narrow by `as`: that each number fits is what `Fits` requires.
+// Kept: this and `session_of` are functions and no `TryFrom`: that words are a session's is tested
+// apart (`is_session`), and code 2 tells it.
 fn words_of(s: Session) -> [u32; WORDS]
     requires { Fits s }
     ensures value { result ≡ words_of s.stage s.run.rec s.run.at }
     ensures true_value { true ≡ is_session result }
 {
-    let stage = s.stage;
-    let run = s.run;
-    let rec = run.rec;
-    let at = run.at;
-    let m = table(stage);
-    let n = entry(stage);
-    laid_out(
-        record_words::words_of(rec),
-        tag(stage),
-        m as u32,
-        n as u32,
-        at as u32,
-    )
+    let mut words = [0; WORDS];
+    words[..record_words::WORDS].copy_from_slice(&record_words::words_of(s.run.rec));
+    words[STAGE] = tag(s.stage);
+    words[TABLE] = table(s.stage) as u32;
+    words[ENTRY] = entry(s.stage) as u32;
+    words[AT] = s.run.at as u32;
+    words
 }
 
 // The words of the record.
 fn record_part(w: [u32; WORDS]) -> [u32; record_words::WORDS]
     ensures { result ≡ record_part w }
 {
-    [
-        w[0], w[1], w[2], w[3], w[4], w[5], w[6], w[7], w[8], w[9], w[10], w[11], w[12], w[13],
-        w[14], w[15], w[16], w[17], w[18], w[19], w[20], w[21], w[22], w[23],
-    ]
+    let mut words = [0; record_words::WORDS];
+    words.copy_from_slice(&w[..record_words::WORDS]);
+    words
 }
 
 fn stage_of(tag: u32, m: usize, n: usize) -> Stage
     ensures { result ≡ stage_of tag m n }
 {
-    if tag == 0 {
-        return Stage::Opening;
+    match tag {
+        0 => Stage::Opening,
+        1 => Stage::Second(m),
+        2 => Stage::Loading(m, n),
+        3 => Stage::Serving(m),
+        4 => Stage::Over,
+        _ => Stage::Stopped(m),
     }
-    if tag == 1 {
-        return Stage::Second(m);
-    }
-    if tag == 2 {
-        return Stage::Loading(m, n);
-    }
-    if tag == 3 {
-        return Stage::Serving(m);
-    }
-    if tag == 4 {
-        return Stage::Over;
-    }
-    Stage::Stopped(m)
 }
 
 // The most entries that a table may have: none where a stage has no table.
 fn most_table(tag: u32) -> u32
     ensures { result ≡ most_table tag }
 {
-    if tag == 0 {
-        return 0;
+    match tag {
+        0 | 4 => 0,
+        _ => 65535,
     }
-    if tag == 4 {
-        return 0;
-    }
-    65535
 }
 
 fn most_entry(tag: u32) -> u32
     ensures { result ≡ most_entry tag }
 {
-    if tag == 2 {
-        return 65535;
-    }
-    0
+    if tag == 2 { 65535 } else { 0 }
 }
 
-fn all_zero(a: u32, b: u32, c: u32, d: u32) -> bool
-    ensures { result ≡ all_zero a b c d }
+// Whether the words that have no use are 0.
+fn all_zero(w: [u32; WORDS]) -> bool
+    ensures { result ≡ all_zero (word w 28) (word w 29) (word w 30) (word w 31) }
 {
-    if a != 0 {
-        return false;
-    }
-    if b != 0 {
-        return false;
-    }
-    if c != 0 {
-        return false;
-    }
-    d == 0
+    w[UNUSED..].iter().all(|&word| word == 0)
 }
 
 // Whether words are a session's.
 fn is_session(w: [u32; WORDS]) -> bool
     ensures { result ≡ is_session w }
 {
-    if !record_words::is_record(record_part(w)) {
-        return false;
-    }
-    if 5 < w[STAGE] {
-        return false;
-    }
-    if most_table(w[STAGE]) < w[TABLE] {
-        return false;
-    }
-    if most_entry(w[STAGE]) < w[ENTRY] {
-        return false;
-    }
-    if 81 < w[AT] {
-        return false;
-    }
-    all_zero(w[28], w[29], w[30], w[31])
+    record_words::is_record(record_part(w))
+        && w[STAGE] <= 5
+        && w[TABLE] <= most_table(w[STAGE])
+        && w[ENTRY] <= most_entry(w[STAGE])
+        && w[AT] <= 81
+        && all_zero(w)
 }
 
 // The session that words are.
@@ -204,6 +157,7 @@ fn session_of(w: [u32; WORDS]) -> Session
     ensures { result ≡ session_of w }
 {
     let rec = record_words::record_of(record_part(w));
+    // Kept: `as`, here and below: std has no `From` of 32 bits to `usize`, and each word fits.
     let run = Run {
         rec,
         at: w[AT] as usize,
@@ -213,29 +167,29 @@ fn session_of(w: [u32; WORDS]) -> Session
     Session { stage, run }
 }
 
-// Why a block is refused: the words are no session's, or the line's buffer has another length.
-fn judged(n: usize, w: [u32; WORDS]) -> u16
-    ensures { result ≡ judged n w }
+// The session that words are, for a line's buffer of n bytes; else the code of a block that is
+// refused: the words are no session's, or the buffer has another length.
+// Kept: the error is a number: the codes are those of the rules (`judged` [Text 4]), for C too.
+fn passed(n: usize, w: [u32; WORDS]) -> Result<Session, u16>
+    ensures ok { IfOk result (λ s. (s ≡ session_of w) × (0 ≡ judged n w)) }
+    ensures err { IfErr result (λ code. (code ≡ judged n w) × (code ≡ 0 → ⊥)) }
 {
     if !is_session(w) {
-        return 2;
+        return Err(2);
     }
     if n != transcript::LINE {
-        return 1;
+        return Err(1);
     }
-    0
+    Ok(session_of(w))
 }
 
 fn over(stage: Stage) -> u16
     ensures { result ≡ over_of stage }
 {
     match stage {
-        Stage::Opening => 0,
-        Stage::Second(_) => 0,
-        Stage::Loading(_, _) => 0,
-        Stage::Serving(_) => 0,
         Stage::Over => 1,
         Stage::Stopped(_) => 2,
+        _ => 0,
     }
 }
 
@@ -253,12 +207,10 @@ fn refused(code: u16) -> Turned
 fn told(s: Session) -> Turned
     ensures { answered_of result ≡ answered s.run.used 0 (over_of s.stage) }
 {
-    let run = s.run;
-    let stage = s.stage;
     Turned {
-        used: run.used,
+        used: s.run.used,
         code: 0,
-        over: over(stage),
+        over: over(s.stage),
         zero: 0,
     }
 }
@@ -279,29 +231,16 @@ pub extern "C" fn jenturik_turn(
 ) -> Turned
     ensures out_value { leaves result words.new left.new right.new colour.new lefts.new rights.new
         line.new out.new
-        ≡ turning words.old left.old right.old colour.old lefts.old rights.old line.old out.old
+        ≡ turns words.old left.old right.old colour.old lefts.old rights.old line.old out.old
         input.now }
     ensures stays { Stays words.old words.new }
 {
-    let w = *words;
-    let code = judged(line.len(), w);
-    if code != 0 {
-        return refused(code);
-    }
+    let s = match passed(line.len(), *words) {
+        Ok(s) => s,
+        Err(code) => return refused(code),
+    };
     let n = input.len();
-    let s = transcript::turn(
-        left,
-        right,
-        colour,
-        lefts,
-        rights,
-        line,
-        out,
-        session_of(w),
-        input,
-        n,
-    );
-    let v = words_of(s);
-    *words = v;
+    let s = transcript::turn(left, right, colour, lefts, rights, line, out, s, input, n);
+    *words = words_of(s);
     told(s)
 }

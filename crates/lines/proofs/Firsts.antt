@@ -2,6 +2,7 @@
 -- `first` says, whatever they held.
 use Prim.Native.Nat.{ℕ, zero, suc, ◌<◌, ◌≤◌}
 use mathlib.Core.Bool.{Bool, true, false, true≢false}
+use mathlib.Core.Logic.{◌⊎◌, inl, inr}
 use mathlib.Core.Path.{◌≡◌, refl, sym, ap, ◌∙◌}
 use mathlib.Core.List.{List, [], ◌∷◌}
 use native.Mathlib.Omega.{arith}
@@ -16,9 +17,10 @@ use Rattle.rules.specs.Check.{size_ok}
 use Rattle.rules.specs.Records.{fresh_record}
 use Rattle.rules.specs.Fresh.{tabulate, fresh, fresh_last, fresh_state}
 use Rattle.rules.specs.declared.Answer.TheVariants.{Started, Refused}
+use Rattle.rules.specs.declared.Step.{Step}
 use Rattle.text.specs.declared.Said.{Said}
 use Rattle.text.specs.declared.Said.TheVariants.{First, Do, Collect, Unreadable}
-use Rattle.lines.specs.Lines.{Line, prints, answered, placed, failed, opened, first}
+use Rattle.lines.specs.Lines.{Line, prints, answered, placed, failed, opened, first, later}
 use Rattle.lines.specs.Lines.{entries}
 
 -- the table in the first m entries
@@ -169,3 +171,19 @@ opens_first (First m r) l k c p q s = opens m r l k c p q s
 opens_first (Do a) l k c p q s = failing
 opens_first (Collect n) l k c p q s = failing
 opens_first Unreadable l k c p q s = failing
+
+-- a line that is no first one is refused
+pub not_first : (l k c : List ℕ) (x : Said)
+    → ((a : Step) × (x ≡ Do a)) ⊎ (((n : ℕ) × (x ≡ Collect n)) ⊎ (x ≡ Unreadable))
+    → failed 10 l k c ≡ opened x l k c
+unfolding opened
+not_first l k c x (inl p) = rw p.1
+not_first l k c x (inr (inl p)) = rw p.1
+not_first l k c x (inr (inr e)) = rw e
+
+-- and one that is of no later form
+pub not_later : (s : State) (x : Said)
+    → ((m : ℕ) × (r : ℕ) × (x ≡ First m r)) ⊎ (x ≡ Unreadable) → prints 10 0 s ≡ later x s
+unfolding later
+not_later s x (inl p) = rw p.2
+not_later s x (inr e) = rw e

@@ -3,16 +3,19 @@
 #![tactic(auto)]
 
 ghost use Rattle.std.specs.Prelude.{◌≡◌, ℕ, ◌+◌, ◌≤◌, ◌<◌, List, [], ◌∷◌, length, take, drop};
-ghost use Rattle.rules.specs.Table.{state, outcome};
+ghost use Rattle.rules.specs.Table.{state};
 ghost use Rattle.rules.specs.Fresh.{fresh};
 ghost use Rattle.rules.specs.Schedules.{ran, schedule, collects};
 ghost use Rattle.text.specs.Grammar.{read};
-ghost use Rattle.lines.specs.Lines.{prints, answered, start_of, collected, later, placed};
+ghost use Rattle.lines.specs.Lines.{prints, start_of, collected, later, placed};
 ghost use Rattle.lines.specs.Lines.{loaded, failed, opened};
 ghost use Rattle.rules.specs.Lent.{given};
 
 use rules::{Made, Ran, Record};
 use text::Said;
+
+// Kept: the code is a number of the rules, 0 where the line is done, as its line of output prints
+// it (`said` in crate text).
 
 // What a line prints, and the record that it leaves.
 #[derive(Clone, Copy)]
@@ -22,26 +25,31 @@ pub struct Told {
     pub rec: Record,
 }
 
-fn answered(d: Made) -> Told
-    ensures { (l r c : List ℕ) → prints result.code result.node (state l r c result.rec)
-        ≡ answered (outcome d l r c) }
-{
-    let answer = d.answer;
-    let rec = d.rec;
-    Told {
-        code: answer.code(),
-        node: answer.node(),
-        rec,
+// A line prints the answer's code and node.
+impl From<Made> for Told {
+    ghost use Rattle.std.specs.Prelude.{◌≡◌, ℕ, List};
+    ghost use Rattle.rules.specs.Table.{state, outcome};
+    ghost use Rattle.lines.specs.Lines.{prints, answered};
+
+    ghost from_gives = { λ d t. (l r c : List ℕ) → prints t.code t.node (state l r c t.rec)
+        ≡ answered (outcome d l r c) };
+
+    fn from(d: Made) -> Told {
+        Told {
+            code: d.answer.code(),
+            node: d.answer.node(),
+            rec: d.rec,
+        }
     }
 }
+
+// Kept: slices and record one by one in the functions below: a struct of three `&mut` slices would
+// need a clause in each that it lends the same ones afterwards, as `SameSlices` of session is.
 
 fn start_of(done: usize, i: u16) -> u16
     ensures { result ≡ start_of done i }
 {
-    if done == 0 {
-        return 0;
-    }
-    i
+    if done == 0 { 0 } else { i }
 }
 
 // So many collector steps, until one is refused.
@@ -50,14 +58,12 @@ fn collect_many(left: &mut [u16], right: &mut [u16], colour: &mut [u8], x: Recor
         ≡ schedule (collects n) (given left.old right.old colour.old x) }
 {
     let made = batch::collect_many(left, right, colour, x, n);
-    let answer = made.answer;
-    let rec = made.rec;
     Ran {
         done: made.done,
-        code: answer.code(),
-        detail: answer.detail(),
+        code: made.answer.code(),
+        detail: made.answer.detail(),
         changed: made.changed,
-        rec,
+        rec: made.rec,
     }
 }
 
@@ -68,22 +74,19 @@ fn collect_some(left: &mut [u16], right: &mut [u16], colour: &mut [u8], x: Recor
         ≡ collected n (given left.old right.old colour.old x) }
 {
     let most = collect_many(left, right, colour, x, (n - 1) as usize);
-    let rec = most.rec;
-    let phase = rec.phase;
-    let i = rules::position(phase);
+    let i = rules::position(most.rec.phase);
     if most.code != 0 {
         return Told {
             code: most.code,
             node: start_of(most.done, i),
-            rec,
+            rec: most.rec,
         };
     }
-    let last = collect_many(left, right, colour, rec, 1);
-    let rec = last.rec;
+    let last = collect_many(left, right, colour, most.rec, 1);
     Told {
         code: last.code,
         node: start_of(most.done + last.done, i),
-        rec,
+        rec: last.rec,
     }
 }
 
@@ -95,11 +98,10 @@ fn collect(left: &mut [u16], right: &mut [u16], colour: &mut [u8], x: Record, n:
         return collect_some(left, right, colour, x, n);
     }
     let none = collect_many(left, right, colour, x, 0);
-    let rec = none.rec;
     Told {
         code: none.code,
         node: 0,
-        rec,
+        rec: none.rec,
     }
 }
 
@@ -108,16 +110,10 @@ pub fn later(left: &mut [u16], right: &mut [u16], colour: &mut [u8], x: Record, 
     ensures { prints result.code result.node (state left.new right.new colour.new result.rec)
         ≡ later (read line.now) (given left.old right.old colour.old x) }
 {
-    let said = text::read(line);
-    match said {
-        Said::Do(a) => answered(calls::step(left, right, colour, x, a)),
+    match text::read(line) {
+        Said::Do(a) => Told::from(calls::step(left, right, colour, x, a)),
         Said::Collect(n) => collect(left, right, colour, x, n),
-        Said::First(_, _) => Told {
-            code: 10,
-            node: 0,
-            rec: x,
-        },
-        Said::Unreadable => Told {
+        Said::First(_, _) | Said::Unreadable => Told {
             code: 10,
             node: 0,
             rec: x,
@@ -138,9 +134,9 @@ pub fn load(
     ensures { prints result.code result.node (state left.new right.new colour.new result.rec)
         ≡ loaded lefts.now rights.now (given left.old right.old colour.old x) }
 {
-    let m = x.m;
-    let r = x.r;
-    answered(load::load(lefts, rights, left, right, colour, m as usize, r as usize))
+    let m = usize::from(x.m);
+    let r = usize::from(x.r);
+    Told::from(load::load(lefts, rights, left, right, colour, m, r))
 }
 
 // A fresh table in the first m entries.
@@ -152,7 +148,7 @@ fn start(left: &mut [u16], right: &mut [u16], colour: &mut [u8], m: usize, r: us
         ≡ placed (fresh m r (take m left.old ∷ take m right.old ∷ []) (take m colour.old))
         (drop m left.old) (drop m right.old) (drop m colour.old) }
 {
-    answered(fresh::fresh(&mut left[0..m], &mut right[0..m], &mut colour[0..m], m, r))
+    Told::from(fresh::fresh(&mut left[..m], &mut right[..m], &mut colour[..m], m, r))
 }
 
 // A first line that fails: no table.
@@ -173,13 +169,7 @@ fn begin(left: &mut [u16], right: &mut [u16], colour: &mut [u8], m: u32, r: u32)
         ≡ opened (Said.First m r) left.old right.old colour.old }
 {
     let nodes = m as usize;
-    if left.len() < nodes {
-        return refused(1);
-    }
-    if right.len() < nodes {
-        return refused(1);
-    }
-    if colour.len() < nodes {
+    if left.len() < nodes || right.len() < nodes || colour.len() < nodes {
         return refused(1);
     }
     start(left, right, colour, nodes, r as usize)
@@ -191,11 +181,8 @@ pub fn first(left: &mut [u16], right: &mut [u16], colour: &mut [u8], line: &[u8]
     ensures { prints result.code result.node (state left.new right.new colour.new result.rec)
         ≡ opened (read line.now) left.old right.old colour.old }
 {
-    let said = text::read(line);
-    match said {
+    match text::read(line) {
         Said::First(m, r) => begin(left, right, colour, m, r),
-        Said::Do(_) => refused(10),
-        Said::Collect(_) => refused(10),
-        Said::Unreadable => refused(10),
+        Said::Do(_) | Said::Collect(_) | Said::Unreadable => refused(10),
     }
 }

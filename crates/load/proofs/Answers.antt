@@ -5,14 +5,13 @@ use mathlib.Core.Logic.{◌≢◌}
 use mathlib.Core.Bool.{Bool, true, false, not}
 use mathlib.Core.List.{List, [], ◌∷◌}
 use native.Mathlib.Omega.{arith}
-use borrow.Author.Tests.{eqb-true}
 use lib.ListN.{length, get_or, set, replicate, length-set, length-replicate}
 use lib.Seq.{get_or-set_same, get_or-set_other}
-use native.Mathlib.Decide.{ℕ_discrete}
+use native.Mathlib.Decide.{ℕ_discrete, dec_lt}
+use Rattle.std.specs.Prelude.{Option, Some, None}
 use lib.Dec.{eqb}
 use Rattle.base.specs.Choice.{pick, every}
 use Rattle.base.proofs.Tests.{pick_yes, pick_no, eq_yes, eq_no, lt_yes, lt_no, each, facts}
-use Rattle.base.proofs.Tests.{split}
 use Rattle.rules.specs.Table.{Outcome, table, state, edge_of}
 use Rattle.rules.specs.Check.{size_ok}
 use Rattle.rules.specs.Records.{fresh_record}
@@ -24,13 +23,15 @@ use Rattle.rules.specs.Load.{chained, chain, chain_length, is_shared, first_shar
 use Rattle.rules.specs.Load.{judge, load_by, load}
 use Rattle.rules.specs.declared.Record.{Record}
 use Rattle.rules.specs.declared.Answer.{Answer}
-use Rattle.rules.specs.declared.Answer.TheVariants.{Refused}
+use Rattle.rules.specs.declared.Answer.TheVariants.{Started, Refused}
 use Rattle.reach.specs.Numbered.{one}
 use Rattle.reach.proofs.Lowests.{Passes, lowest_passes, lowest_same}
 use Rattle.reach.proofs.Meets.{zero_at, blank_at, blank_length}
 use Rattle.reach.proofs.Given.{sizes, bad_no, all_good}
 use Rattle.meet.specs.Shown.{Told}
-use Rattle.load.specs.GoodEdges.{Below, load_good}
+use Rattle.load.specs.declared.Fault.{Fault}
+use Rattle.load.specs.declared.Fault.TheVariants.{Broken, Shared}
+use Rattle.load.specs.GoodEdges.{Below, load_good, found, fault_answer}
 
 -- no table
 pub load_refused : (m r : ℕ) (given edges : List (List ℕ)) (colours : List ℕ) (a b : Answer)
@@ -50,21 +51,70 @@ unfolding load_by
 load_done m r l g left right colour left' right' colour' a b n free x q h p k w e u f v =
     rw (← q, p, k, e, w, v, u, f) (pick_yes _ _ _ _ (eq_yes _ _ h) refl)
 
--- 13, or the chain's end
-module _ (m r : ℕ) (es : List (List ℕ)) (free num : List ℕ) (a : Answer) (n : ℕ) (h : code_of a ≡ 0)
-    (q : num ≡ (meet m r es).num) (e : n ≡ first_shared m free num) where
-  pub judge_shared : n < m → Refused 13 n 0 ≡ judge_free m r es (chained free a)
-  unfolding judge_free
-  judge_shared l =
-      rw (← q, ← e) (pick_yes _ _ _ _ (eq_yes _ _ h) (pick_yes _ _ _ _ (lt_yes _ _ l) refl))
+-- a node is found, or none
+pub found_yes : (m n f : ℕ) → n < m → n ≡ f → Some n ≡ found m f
+found_yes m n f h e = rw (← e) (pick_yes _ _ _ _ (lt_yes n m h) refl)
 
-  pub judge_whole : m ≤ n → a ≡ judge_free m r es (chained free a)
+pub found_no : (m n f : ℕ) → m ≤ n → n ≡ f → None ≡ found m f
+found_no m n f h e = rw (← e) (pick_no _ _ _ _ (lt_no n m h) refl)
+
+pub record At (m n f : ℕ) : Type 0 where
+  pub inside : n < m
+  pub same : n ≡ f
+
+pub found_some : (m n f : ℕ) → Some n ≡ found m f → At m n f
+found_some m n f e = go (dec_lt f m)
+  where
+    go : Dec (f < m) → At m n f
+    go (yes h) =
+        let p = e ∙ sym (pick_yes _ _ _ _ (lt_yes f m h) refl) in
+        let q : n ≡ f = cc p in
+        record { inside = omega (arith, q); same = q }
+    go (no h) =
+        let p = e ∙ sym (pick_no _ _ _ _ (lt_no f m (omega arith)) refl) in
+        absurd (cc p)
+
+pub found_none : (m f : ℕ) → None ≡ found m f → m ≤ f
+found_none m f e = go (dec_lt f m)
+  where
+    go : Dec (f < m) → m ≤ f
+    go (yes h) =
+        let p = e ∙ sym (pick_yes _ _ _ _ (lt_yes f m h) refl) in
+        absurd (cc p)
+    go (no h) = omega arith
+
+-- 12
+pub fault_code : (f : Fault) → code_of (fault_answer f) ≢ 0
+fault_code (Broken n) e = absurd (omega arith)
+fault_code (Shared n) e = absurd (omega arith)
+
+pub judge_broken : (m r : ℕ) (es : List (List ℕ)) (c : Chained) (free : List ℕ) (f : Fault)
+    → chained free (fault_answer f) ≡ c → fault_answer f ≡ judge_free m r es c
+unfolding judge_free
+judge_broken m r es c free (Broken n) e = rw (← e) (pick_no _ _ _ _ (eq_no 12 0 (omega arith)) refl)
+judge_broken m r es c free (Shared n) e = rw (← e) (pick_no _ _ _ _ (eq_no 13 0 (omega arith)) refl)
+
+-- 13, or the chain's end
+module _ (m r : ℕ) (es : List (List ℕ)) (c : Chained) (free : List ℕ) (last : ℕ)
+    (e : chained free (Started last) ≡ c) where
+  pub judge_shared : (n : ℕ) → Some n ≡ found m (first_shared m free (meet m r es).num)
+      → Refused 13 n 0 ≡ judge_free m r es c
   unfolding judge_free
-  judge_whole l =
-      rw (← q, ← e) (pick_yes _ _ _ _ (eq_yes _ _ h) (pick_no _ _ _ _ (lt_no _ _ l) refl))
+  judge_shared n q =
+      let at = found_some _ _ _ q in
+      rw (← e, ← at.same)
+      (pick_yes _ _ _ _ (eq_yes 0 0 refl) (pick_yes _ _ _ _ (lt_yes _ _ at.inside) refl))
+
+  pub judge_whole : None ≡ found m (first_shared m free (meet m r es).num)
+      → Started last ≡ judge_free m r es c
+  unfolding judge_free
+  judge_whole q =
+      rw (← e)
+      (pick_yes _ _ _ _ (eq_yes 0 0 refl)
+      (pick_no _ _ _ _ (lt_no _ _ (found_none _ _ q)) refl))
 
 -- the nodes marked are those that have a number
-module _ {m k h : ℕ} {es : List (List ℕ)} {marks : List ℕ} {s : Met}
+module _ {m k : ℕ} {h : Option ℕ} {es : List (List ℕ)} {marks : List ℕ} {s : Met}
     (w : Told m es marks k h s) where
   same_test : (x y : ℕ) → x ≡ one y → eqb x 0 ≡ eqb y 0
   unfolding one
@@ -132,14 +182,6 @@ module _ (m r : ℕ) (l g : List ℕ) (good : Below m l) where
       judge_alike _ _
       (chain_same m _ _ 1 (omega (arith, length-replicate {A = ℕ} k 0))
       (omega (arith, blank_length)) (λ n. zero_at k n ∙ sym (blank_at n)))
-
--- where the lists are accepted, the chain is not broken
-pub judge_passed : (m r : ℕ) (es : List (List ℕ)) (c : Chained) (a : Answer)
-    → a ≡ judge_free m r es c → code_of a ≡ 0 → code_of c.answer ≡ 0
-unfolding judge_free
-judge_passed m r es c a e h =
-    split (λ (b : Answer). code_of b ≡ 0 → code_of c.answer ≡ 0) _ _ _
-    (λ q z. eqb-true _ _ q) (λ q z. z) (rw e at h)
 
 -- 1, 11, or what is judged where edges are good
 module _ (m r : ℕ) (given edges : List (List ℕ)) (colours : List ℕ) (o : Outcome) where

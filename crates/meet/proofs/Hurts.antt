@@ -8,9 +8,10 @@ use Prim.Native.Nat.{ℕ, ◌+◌, ◌-◌, ◌≤◌, ◌<◌}
 use native.Mathlib.Decide.{ℕ_discrete, dec_lt}
 use native.Mathlib.Omega.{arith}
 use lib.ListN.{get_or}
-use lib.Dec.{ltb, eqb}
+use lib.Dec.{eqb}
+use Rattle.std.specs.Prelude.{Option, Some, None, unwrap_or, min}
 use Rattle.base.specs.Choice.{pick}
-use Rattle.base.proofs.Tests.{pick_yes, pick_no, lt_yes, lt_no, eq_yes, eq_no, not_is, every_skip}
+use Rattle.base.proofs.Tests.{pick_yes, pick_no, eq_yes, eq_no, not_is, every_skip}
 use Rattle.base.proofs.Tests.{every_last}
 use Rattle.rules.specs.Table.{bad_edge}
 use Rattle.rules.specs.Meet.{Met, num_of, node_of, visit_edges, visit_from, any_edge}
@@ -20,48 +21,53 @@ use Rattle.reach.proofs.Kept.{kept_edges, node_inside, top, Grows, grows_edges}
 use Rattle.reach.proofs.Meets.{from_next, from_stop}
 use Rattle.reach.proofs.Lowests.{Passes, lowest_passes}
 use Rattle.reach.proofs.Given.{every_two}
-use Rattle.meet.specs.Shown.{Shown, lower, Hurt, Gone, Told}
+use Rattle.meet.specs.Shown.{Shown, lowest, Hurt, Gone, Told}
 
--- the lower one of two numbers
-lower_of : (a b : ℕ) → ((lower a b ≡ a) × (a ≤ b)) ⊎ ((lower a b ≡ b) × (b ≤ a))
-unfolding lower
-lower_of a b = go (dec_lt a b)
+-- of a node and the lowest before: it, or that
+lowest_of : (n m : ℕ) (o : Option ℕ) → n < m
+    → ((lowest n o ≡ n) × (n ≤ unwrap_or o m)) ⊎ ((o ≡ Some (lowest n o)) × (lowest n o ≤ n))
+lowest_of n m None l = inl (refl, omega arith)
+lowest_of n m (Some h) l = go (dec_lt h n)
   where
-    go : Dec (a < b) → ((pick (ltb a b) a b ≡ a) × (a ≤ b)) ⊎ ((pick (ltb a b) a b ≡ b) × (b ≤ a))
-    go (yes h) = inl (sym (pick_yes _ _ _ _ (lt_yes a b h) refl), omega arith)
-    go (no h) = inr (sym (pick_no _ _ _ _ (lt_no a b (omega arith)) refl), omega arith)
+    go : Dec (h < n) → ((min n h ≡ n) × (n ≤ h)) ⊎ ((Some h ≡ Some (min n h)) × (min n h ≤ n))
+    go (yes k) =
+        let e : h ≡ min n h = omega arith in
+        inr (ap Some e, omega arith)
+    go (no k) = inl (omega arith, omega arith)
 
-lower_again : (a b : ℕ) → lower a (lower a b) ≡ lower a b
-lower_again a b = go (lower_of a b)
-  where
-    same : ((lower a a ≡ a) × (a ≤ a)) ⊎ ((lower a a ≡ a) × (a ≤ a)) → lower a a ≡ a
-    same (inl p) = p.0
-    same (inr p) = p.0
-
-    go : ((lower a b ≡ a) × (a ≤ b)) ⊎ ((lower a b ≡ b) × (b ≤ a)) → lower a (lower a b) ≡ lower a b
-    go (inl p) = rw p.0 (same (lower_of a a))
-    go (inr p) = ap (lower a) p.0
+lowest_again : (n : ℕ) (o : Option ℕ) → lowest n (Some (lowest n o)) ≡ lowest n o
+lowest_again n None = omega arith
+lowest_again n (Some h) = omega arith
 
 -- of two edges of node n, one after the other
-pub hurt_both : (a b : Bool) (n h g k : ℕ) → g ≡ pick a (lower n h) h → k ≡ pick b (lower n g) g
-    → k ≡ pick (a || (b || false)) (lower n h) h
+pub hurt_both : (a b : Bool) (n : ℕ) (h g k : Option ℕ) → g ≡ pick a (Some (lowest n h)) h
+    → k ≡ pick b (Some (lowest n g)) g → k ≡ pick (a || (b || false)) (Some (lowest n h)) h
 unfolding pick
-hurt_both true true n h g k p q = q ∙ ap (lower n) p ∙ lower_again n h
+hurt_both true true n h g k p q =
+    q ∙ ap (λ (o : Option ℕ). Some (lowest n o)) p ∙ ap Some (lowest_again n h)
 hurt_both true false n h g k p q = q ∙ p
-hurt_both false true n h g k p q = q ∙ ap (lower n) p
+hurt_both false true n h g k p q = q ∙ ap (λ (o : Option ℕ). Some (lowest n o)) p
 hurt_both false false n h g k p q = q ∙ p
 
+-- a node that is told is below m; where none is told, m stands for it
+some_of : (h : Option ℕ) (m x : ℕ) → x ≡ unwrap_or h m → x < m → h ≡ Some x
+some_of None m x e l = absurd (omega arith)
+some_of (Some y) m x e l = ap Some (sym e)
+
+high : (h : Option ℕ) (m : ℕ) → ((n : ℕ) → h ≡ Some n → n < m) → unwrap_or h m ≤ m
+high None m f = omega arith
+high (Some y) m f = omega (arith, f y refl)
+
 -- no node is visited yet
-pub hurt_none : {m : ℕ} {s : Met} (es : List (List ℕ)) → Kept m s → Hurt m es s 2 m
+pub hurt_none : {m : ℕ} {s : Met} (es : List (List ℕ)) → Kept m s → Hurt m es s 2 None
 hurt_none es v = record {
-  high = omega arith;
-  there = λ h. absurd (omega arith);
+  there = λ n e. absurd (cc e);
   least = λ n a b c. absurd (omega (arith, v.there n a));
 }
 
 -- the node with number k is visited
-module _ {m : ℕ} {es : List (List ℕ)} {s : Met} {k h : ℕ} (v : Kept m s) (u : Hurt m es s k h)
-    (lo : 2 ≤ k) (hi : k < s.tail) where
+module _ {m : ℕ} {es : List (List ℕ)} {s : Met} {k : ℕ} {h : Option ℕ} (v : Kept m s)
+    (u : Hurt m es s k h) (lo : 2 ≤ k) (hi : k < s.tail) where
   abbrev n : ℕ
   n = node_of s k
 
@@ -87,7 +93,7 @@ module _ {m : ℕ} {es : List (List ℕ)} {s : Met} {k h : ℕ} (v : Kept m s) (
       (ap (num_of s) (sym q) ∙ v.back (num_of z x) t.0 (omega arith), q)
 
   -- a node visited by now that has a bad edge: an earlier one, or n
-  least : (g : ℕ) → g ≤ h → (any_edge (bad_edge m) es n ≡ true → g ≤ n) → (x : ℕ) → num_of z x ≢ 0
+  least : (g : ℕ) → g ≤ unwrap_or h m → (any_edge (bad_edge m) es n ≡ true → g ≤ n) → (x : ℕ) → num_of z x ≢ 0
       → num_of z x < k + 1 → any_edge (bad_edge m) es x ≡ true → g ≤ x
   least g a b x c d e = go (ℕ_discrete (num_of z x) k)
     where
@@ -104,37 +110,48 @@ module _ {m : ℕ} {es : List (List ℕ)} {s : Met} {k h : ℕ} (v : Kept m s) (
         u.least x (λ y. c (sym o.0 ∙ y)) (omega (arith, o.0)) e,
       )
 
-  still : (g : ℕ) → g ≡ h → (any_edge (bad_edge m) es n ≡ true → h ≤ n) → Hurt m es z (k + 1) g
+  still : (g : Option ℕ) → g ≡ h
+      → (any_edge (bad_edge m) es n ≡ true → unwrap_or h m ≤ n) → Hurt m es z (k + 1) g
   still g q b = rw q record {
-    high = u.high;
-    there = λ l. (stays h (u.there l).0, (u.there l).1);
-    least = least h (omega arith) b;
+    there = λ x e.
+        let t = u.there x e in
+        (t.0, stays x t.1, t.2);
+    least = least (unwrap_or h m) (omega arith) b;
   }
 
-  pub hurt_next : (g : ℕ) → g ≡ pick (any_edge (bad_edge m) es n) (lower n h) h
-      → Hurt m es z (k + 1) g
+  pub hurt_next : (g : Option ℕ)
+      → g ≡ pick (any_edge (bad_edge m) es n) (Some (lowest n h)) h → Hurt m es z (k + 1) g
   hurt_next g e = go (any_edge (bad_edge m) es n) refl
     where
-      bad : any_edge (bad_edge m) es n ≡ true → g ≡ lower n h
+      bad : any_edge (bad_edge m) es n ≡ true → g ≡ Some (lowest n h)
       bad q = e ∙ sym (pick_yes _ _ _ _ (sym q) refl)
 
+      here_is : any_edge (bad_edge m) es n ≡ true → g ≡ Some n → (x : ℕ) → g ≡ Some x
+          → (x < m) × (num_of z x ≢ 0) × (any_edge (bad_edge m) es x ≡ true)
+      here_is q p x a =
+          let i : n ≡ x = cc (p, a) in
+          rw (← i) (here.1, stays n here.0, q)
+
       found : any_edge (bad_edge m) es n ≡ true
-          → ((lower n h ≡ n) × (n ≤ h)) ⊎ ((lower n h ≡ h) × (h ≤ n)) → Hurt m es z (k + 1) g
-      found q (inl p) = rw (bad q ∙ p.0) record {
-        high = omega (arith, here.1);
-        there = λ l. (stays n here.0, q);
-        least = least n p.1 (λ y. omega arith);
-      }
-      found q (inr p) = still g (bad q ∙ p.0) (λ y. p.1)
+          → ((lowest n h ≡ n) × (n ≤ unwrap_or h m))
+          ⊎ ((h ≡ Some (lowest n h)) × (lowest n h ≤ n)) → Hurt m es z (k + 1) g
+      found q (inl p) =
+          let i = bad q ∙ ap Some p.0 in
+          record {
+            there = here_is q i;
+            least = rw i (least n p.1 (λ y. omega arith));
+          }
+      found q (inr p) = still g (bad q ∙ sym p.0)
+          (λ y. omega (arith, p.1, ap (λ o. unwrap_or o m) p.0))
 
       go : (b : Bool) → any_edge (bad_edge m) es n ≡ b → Hurt m es z (k + 1) g
-      go true q = found q (lower_of n h)
+      go true q = found q (lowest_of n m h here.1)
       go false q = still g (e ∙ sym (pick_no _ _ _ _ (sym q) refl))
           (λ y. absurd (true≢false (sym y ∙ q)))
 
 -- all are visited
-module _ (m : ℕ) (es : List (List ℕ)) (s : Met) (k h : ℕ) (v : Kept m s) (u : Hurt m es s k h)
-    (all : s.tail ≤ k) where
+module _ (m : ℕ) (es : List (List ℕ)) (s : Met) (k : ℕ) (h : Option ℕ) (v : Kept m s)
+    (u : Hurt m es s k h) (all : s.tail ≤ k) where
   abbrev f : ℕ
   f = first_hurt m es s.num
 
@@ -157,31 +174,34 @@ module _ (m : ℕ) (es : List (List ℕ)) (s : Met) (k h : ℕ) (v : Kept m s) (
       some : (x : ℕ) → not (eqb x 0) ≡ true → x ≢ 0
       some x e p = true≢false (sym e ∙ ap not (sym (eq_yes x 0 p)))
 
-  pub hurt_all : h ≡ f
-  hurt_all = go (dec_lt f m) (dec_lt h f)
+  abbrev told : ℕ
+  told = unwrap_or h m
+
+  pub hurt_all : told ≡ f
+  hurt_all = go (dec_lt f m) (dec_lt told f)
     where
-      under : f < m → h ≤ f
+      under : f < m → told ≤ f
       under l =
           let i = is_hurt_lem f (w.passes l) in
           u.least f i.0 (omega (arith, v.there f i.0)) i.1
 
-      go : Dec (f < m) → Dec (h < f) → h ≡ f
+      go : Dec (f < m) → Dec (told < f) → told ≡ f
       go a (yes l) =
-          let t = u.there (omega (arith, w.to)) in
-          absurd (true≢false (hurt_yes h t.0 t.1 ∙ w.below h (omega arith) l))
+          let t = u.there told (some_of h m told refl (omega (arith, w.to))) in
+          absurd (true≢false (hurt_yes told t.1 t.2 ∙ w.below told (omega arith) l))
       go (yes a) (no l) = omega (arith, under a)
-      go (no a) (no l) = omega (arith, w.to, u.high)
+      go (no a) (no l) = omega (arith, w.to, high h m (λ n e. (u.there n e).0))
 
 -- what is left of a walk
-pub gone_none : {m : ℕ} {es : List (List ℕ)} {k : ℕ} {s : Met} {marks order : List ℕ} {tail h : ℕ}
-    → Shown m marks order tail s → Hurt m es s k h → Gone m es k s marks order tail k h
+pub gone_none : {m : ℕ} {es : List (List ℕ)} {k : ℕ} {s : Met} {marks order : List ℕ} {tail : ℕ}
+    {h : Option ℕ} → Shown m marks order tail s → Hurt m es s k h → Gone m es k s marks order tail k h
 gone_none v u = record { at = _; shown = v; hurt = u; rest = refl }
 
 pub gone_next : {m : ℕ} {es : List (List ℕ)} {k : ℕ} {s : Met} {marks order : List ℕ}
-    {tail j h : ℕ} (v : Gone m es k s marks order tail j h) → 2 ≤ m → 2 ≤ j → j < tail
-    → (marks' order' : List ℕ) (tail' g n : ℕ) → n ≡ get_or order j 0
+    {tail j : ℕ} {h : Option ℕ} (v : Gone m es k s marks order tail j h) → 2 ≤ m → 2 ≤ j → j < tail
+    → (marks' order' : List ℕ) (tail' : ℕ) (g : Option ℕ) (n : ℕ) → n ≡ get_or order j 0
     → ((x : Met) → Shown m marks order tail x → Shown m marks' order' tail' (visit_edges m es n x))
-    → g ≡ pick (any_edge (bad_edge m) es n) (lower n h) h
+    → g ≡ pick (any_edge (bad_edge m) es n) (Some (lowest n h)) h
     → Gone m es k s marks' order' tail' (j + 1) g
 gone_next {m} {es} {j = j} {h} v two lo hi marks' order' tail' g n e f q =
     let a = v.at in
@@ -196,7 +216,7 @@ gone_next {m} {es} {j = j} {h} v two lo hi marks' order' tail' g n e f q =
     }
 
 pub gone_told : {m : ℕ} {es : List (List ℕ)} {k : ℕ} {s : Met} {marks order : List ℕ}
-    {tail j h : ℕ} → Gone m es k s marks order tail j h → tail ≤ j
+    {tail j : ℕ} {h : Option ℕ} → Gone m es k s marks order tail j h → tail ≤ j
     → Told m es marks tail h (visit_from m es (m - k) k s)
 gone_told {m} {es} {j = j} {h} v all =
     let a = v.at in
@@ -206,6 +226,7 @@ gone_told {m} {es} {j = j} {h} v all =
       mark = v.shown.mark;
       end = v.shown.end;
       first = hurt_all m es a j h v.shown.kept v.hurt hi;
+      inside = λ n e. (v.hurt.there n e).0;
     }
 
 -- a longer queue with the same entries

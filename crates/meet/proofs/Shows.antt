@@ -125,13 +125,3 @@ shown_slot {m} {marks} {order} {n} v lo hi wide long z =
     let on : n + 1 - get_or marks n 0 ≡ n + 1 = omega (arith, z) in
     rw (at, slots_next, of)
     (rw on at (shown_visit v n (node_good m n hi (omega arith)) (omega arith) wide long))
-
--- for the loop that copies a queue: one entry more
-pub copied_next : (few order : List ℕ) (k v : ℕ) → k < length order → v ≡ get_or few k 0
-    → ((j : ℕ) → j < k → get_or order j 0 ≡ get_or few j 0)
-    → (j : ℕ) → j < k + 1 → get_or (set order k v) j 0 ≡ get_or few j 0
-copied_next few order k v h e f j l = go (ℕ_discrete j k)
-  where
-    go : Dec (j ≡ k) → get_or (set order k v) j 0 ≡ get_or few j 0
-    go (yes q) = rw q (get_or-set_same order k v 0 h ∙ e)
-    go (no q) = get_or-set_other order k j v 0 q ∙ f j (omega arith)

@@ -12,29 +12,29 @@ use Rattle.rules.specs.Editor.{side_code, owed_code, depart}
 use Rattle.rules.specs.declared.Place.{Place}
 use Rattle.rules.specs.declared.Record.{Record}
 use Rattle.rules.specs.declared.Answer.{Answer}
-use Rattle.rules.specs.declared.Walk.{Walk}
-use Rattle.rules.specs.declared.Walk.TheVariants.{At, Damaged}
+use Rattle.rules.specs.Places.{Walk}
+use Rattle.std.specs.Prelude.{Result, Ok, Err}
 use Rattle.rules.proofs.Walks.{Below, below}
-use Rattle.places.specs.declared.Source.{Source}
-use Rattle.places.specs.declared.Source.TheVariants.{Found, Missing}
+use Rattle.rules.specs.declared.Damaged.{Damaged}
+use Rattle.places.specs.declared.Refusal.{Refusal}
 use Rattle.places.specs.Sources.{edit_code, source_of}
 
-module _ (s : State) (w v : Walk) (go : ℕ → Outcome) (n : ℕ) where
-  pub arrives : (z : Outcome) → v ≡ w → v ≡ At n → z ≡ go n → z ≡ arrive s w go
+module _ (s : State) (w v : Walk) (go : ℕ → Outcome) where
+  pub arrives : (n : ℕ) (z : Outcome) → v ≡ w → v ≡ Ok n → z ≡ go n → z ≡ arrive s w go
   unfolding arrive
-  arrives z e q h = rw (← e, q) h
+  arrives n z e q h = rw (← e, q) h
 
-  pub stops : (side : ℕ) → v ≡ w → v ≡ Damaged n side → refuse_with s 7 n side ≡ arrive s w go
+  pub stops : (d : Damaged) → v ≡ w → v ≡ Err d → refuse_with s 7 d.node d.side ≡ arrive s w go
   unfolding arrive
-  stops side e q = rw (← e, q)
+  stops d e q = rw (← e, q)
 
 -- and a walk to a source: v is what it answered
-module _ (s : State) (p : Place) (v : Source) (go : ℕ → Outcome) where
-  abbrev leave : Source → Outcome
-  leave (Found n) = go n
-  leave (Missing code n detail) = refuse_with s code n detail
+module _ (s : State) (p : Place) (v : Result ℕ Refusal) (go : ℕ → Outcome) where
+  abbrev leave : Result ℕ Refusal → Outcome
+  leave (Ok n) = go n
+  leave (Err q) = refuse_with s q.code q.node q.detail
 
-  either : (b : Bool) (n : ℕ) → leave (pick b (Missing 8 0 0) (Found n))
+  either : (b : Bool) (n : ℕ) → leave (pick b (Err (record { code = 8; node = 0; detail = 0 })) (Ok n))
       ≡ pick b (refuse s 8 0) (go n)
   unfolding pick
   either true n = refl
@@ -43,31 +43,31 @@ module _ (s : State) (p : Place) (v : Source) (go : ℕ → Outcome) where
   sources : (w : Walk) → leave (source_of w)
       ≡ arrive s w (λ n. pick (eqb n NIL) (refuse s 8 0) (go n))
   unfolding source_of arrive
-  sources (At n) = either (eqb n NIL) n
-  sources (Damaged n side) = refl
+  sources (Ok n) = either (eqb n NIL) n
+  sources (Err d) = refl
 
-  pub departs : (n : ℕ) (z : Outcome) → v ≡ source_of (walk s p) → v ≡ Found n → z ≡ go n
+  pub departs : (n : ℕ) (z : Outcome) → v ≡ source_of (walk s p) → v ≡ Ok n → z ≡ go n
       → z ≡ depart s p go
   unfolding depart
   departs n z e q h = h ∙ ap leave (sym q ∙ e) ∙ sources (walk s p)
 
-  pub absent : (code n detail : ℕ) → v ≡ source_of (walk s p) → v ≡ Missing code n detail
-      → refuse_with s code n detail ≡ depart s p go
+  pub absent : (d : Refusal) → v ≡ source_of (walk s p) → v ≡ Err d
+      → refuse_with s d.code d.node d.detail ≡ depart s p go
   unfolding depart
-  absent code n detail e q = ap leave (sym q ∙ e) ∙ sources (walk s p)
+  absent d e q = ap leave (sym q ∙ e) ∙ sources (walk s p)
 
 -- a source that is found lies in the table
-abbrev Lies : ℕ → Source → Type 0
-Lies m (Found n) = n < m
-Lies m (Missing code n detail) = Unit {0}
+abbrev Lies : ℕ → Result ℕ Refusal → Type 0
+Lies m (Ok n) = n < m
+Lies m (Err d) = Unit {0}
 
 lies : (m : ℕ) (w : Walk) → Below m w → Lies m (source_of w)
 unfolding source_of
-lies m (At n) h = split (Lies m) _ _ _ (λ q. tt) (λ q. h)
-lies m (Damaged n side) h = tt
+lies m (Ok n) h = split (Lies m) _ _ _ (λ q. tt) (λ q. h)
+lies m (Err d) h = tt
 
-pub found_below : (b : ℕ) (edges : ℕ → ℕ → ℕ) (m k w n t : ℕ) (v : Source)
-    → v ≡ source_of (walk_from b edges m k w n) → v ≡ Found t → n < m → t < m
+pub found_below : (b : ℕ) (edges : ℕ → ℕ → ℕ) (m k w n t : ℕ) (v : Result ℕ Refusal)
+    → v ≡ source_of (walk_from b edges m k w n) → v ≡ Ok t → n < m → t < m
 found_below b edges m k w n t v e q h =
     subst (Lies m) (sym e ∙ q) (lies m _ (below b edges m k w n h))
 

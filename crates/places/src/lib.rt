@@ -6,31 +6,47 @@ ghost use Rattle.std.specs.Prelude.{◌≡◌, [], ◌∷◌, ◌+◌, ◌<◌, 
 ghost use Rattle.rules.specs.Table.{most_nodes, edge_of};
 ghost use Rattle.rules.specs.Places.{turns_ok, place_code, start, walk_from};
 ghost use Rattle.rules.specs.Editor.{side_code, owed_code};
-ghost use Rattle.places.specs.Sources.{edit_code, source_of};
+ghost use Rattle.places.specs.Sources.{edit_code, missed, source_of};
 
-use rules::{Owed, Place, Record, Walk};
+use rules::{Damaged, Place, Record};
 
-// The source of a step that changes an edge; or the code that refuses it, with a node and a detail.
+// Why a step that changes an edge has no source: a code, a node and a detail.
+// Kept: code and detail are numbers, as `rules::refusal_with` takes them.
 #[derive(Clone, Copy)]
-pub enum Source {
-    Found(u16),
-    Missing(u8, u16, u8),
+pub struct Refusal {
+    pub code: u8,
+    pub node: u16,
+    pub detail: u8,
+}
+
+// A bad edge on the way refuses the step.
+impl From<Damaged> for Refusal {
+    ghost from_gives = { λ d r. r ≡ missed d };
+
+    fn from(d: Damaged) -> Refusal {
+        Refusal {
+            code: 7,
+            node: d.node,
+            detail: d.side,
+        }
+    }
 }
 
 fn turns_ok(p: Place) -> bool
     ensures { result ≡ turns_ok 2 p }
 {
-    if rules::MOST_TURNS < p.count {
-        return false;
-    }
-    p.word >> p.count == 0
+    p.count <= rules::MOST_TURNS && p.word >> p.count == 0
 }
 
+// Kept: these codes are numbers, 0 where none is given, as their definitions are, which the clauses
+// name; `edit_code` answers the first that is not 0.
+
 // Codes 3 and 4.
+#[tactic(auto, unfolding(base::specs::Choice::pick, rules::specs::Places::place_code))]
 pub fn place_code(r: u16, p: Place) -> u8
     ensures { result ≡ place_code 2 r p }
 {
-    if r as u32 <= p.slot {
+    if u32::from(r) <= p.slot {
         return 3;
     }
     if !turns_ok(p) {
@@ -40,6 +56,7 @@ pub fn place_code(r: u16, p: Place) -> u8
 }
 
 // Code 10, of a side.
+#[tactic(auto, unfolding(base::specs::Choice::pick, rules::specs::Editor::side_code))]
 pub fn side_code(side: u32) -> u8
     ensures { result ≡ side_code 2 side }
 {
@@ -50,12 +67,13 @@ pub fn side_code(side: u32) -> u8
 }
 
 // Code 5.
-pub fn owed_code(owed: Owed) -> u8
+#[tactic(auto, unfolding(rules::specs::Editor::owed_code))]
+pub fn owed_code(owed: Option<u16>) -> u8
     ensures { result ≡ owed_code owed }
 {
     match owed {
-        Owed::Nothing => 0,
-        Owed::Node(_) => 5,
+        None => 0,
+        Some(_) => 5,
     }
 }
 
@@ -76,12 +94,21 @@ pub fn edit_code(x: Record, p: Place, side: u32, target: u8) -> u8
     if target != 0 {
         return target;
     }
-    let owed = x.owed;
-    owed_code(owed)
+    owed_code(x.owed)
 }
 
 // From node start, turn by turn, lowest bit first.
-pub fn walk_from(left: &[u16], right: &[u16], m: u16, start: u16, count: u32, word: u32) -> Walk
+// Kept: two slices and m: a struct of them would be made anew by each call that changes an edge,
+// since there the slices are `&mut`.
+// Kept: `as`, here and below: each number is proved to fit.
+pub fn walk_from(
+    left: &[u16],
+    right: &[u16],
+    m: u16,
+    start: u16,
+    count: u32,
+    word: u32,
+) -> Result<u16, Damaged>
     requires start_lt_m { start < m }
     requires left_len { length left.now ≡ m }
     requires right_len { length right.now ≡ m }
@@ -89,25 +116,26 @@ pub fn walk_from(left: &[u16], right: &[u16], m: u16, start: u16, count: u32, wo
 {
     let mut n = start;
     let mut rest = word;
-    let mut turns = count;
-    while 0 < turns {
+    for _ in 0..count {
         if n == 0 {
-            return Walk::At(0);
+            return Ok(0);
         }
         let side = rest % 2;
         let e = table::edge(left, right, side, n);
         if table::bad_edge(m, e) {
-            return Walk::Damaged(n, side as u8);
+            return Err(Damaged {
+                node: n,
+                side: side as u8,
+            });
         }
         n = e;
-        rest = rest / 2;
-        turns = turns - 1;
+        rest /= 2;
     }
-    Walk::At(n)
+    Ok(n)
 }
 
 // The walk of a place, from its slot's node.
-pub fn walk(left: &[u16], right: &[u16], m: u16, p: Place) -> Walk
+pub fn walk(left: &[u16], right: &[u16], m: u16, p: Place) -> Result<u16, Damaged>
     requires p_bound { start p < m }
     requires m_le_most_nodes { m ≤ most_nodes }
     requires left_len { length left.now ≡ m }
@@ -119,7 +147,8 @@ pub fn walk(left: &[u16], right: &[u16], m: u16, p: Place) -> Walk
 }
 
 // The way to a source: 7 where an edge on it is bad, 8 where it ends at NIL.
-pub fn depart(left: &[u16], right: &[u16], m: u16, p: Place) -> Source
+#[tactic(auto, unfolding(base::specs::Choice::pick, crate::specs::Sources::source_of))]
+pub fn depart(left: &[u16], right: &[u16], m: u16, p: Place) -> Result<u16, Refusal>
     requires p_bound { start p < m }
     requires m_le_most_nodes { m ≤ most_nodes }
     requires left_len { length left.now ≡ m }
@@ -127,14 +156,13 @@ pub fn depart(left: &[u16], right: &[u16], m: u16, p: Place) -> Source
     ensures { result ≡ source_of
         (walk_from 2 (edge_of (left.now ∷ right.now ∷ [])) m p.count p.word (start p)) }
 {
-    let from = walk(left, right, m, p);
-    match from {
-        Walk::At(n) => {
-            if n == 0 {
-                return Source::Missing(8, 0, 0);
-            }
-            Source::Found(n)
-        }
-        Walk::Damaged(n, side) => Source::Missing(7, n, side),
+    let n = walk(left, right, m, p)?;
+    if n == 0 {
+        return Err(Refusal {
+            code: 8,
+            node: 0,
+            detail: 0,
+        });
     }
+    Ok(n)
 }

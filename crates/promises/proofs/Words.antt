@@ -18,8 +18,6 @@ use Rattle.rules.specs.Facts.{Inside, InRange, Owable}
 use Rattle.rules.specs.declared.Step.{Step}
 use Rattle.rules.specs.declared.Answer.{Answer}
 use Rattle.rules.specs.declared.Phase.{Phase}
-use Rattle.rules.specs.declared.Owed.{Owed}
-use Rattle.rules.specs.declared.Owed.TheVariants.{Nothing, Node}
 use Rattle.rules.proofs.Checked.{good, inside, owable}
 use Rattle.rules.proofs.Phases.{tag_most}
 use Rattle.rules.proofs.Sizes.{square}
@@ -40,6 +38,8 @@ use Rattle.promises.specs.Words.{left_in, left_in_run, once, asked, many, left_b
 use Rattle.promises.specs.Words.{words, Call, Fresh, Load, Look, InUse, FreeCount, Link}
 use Rattle.promises.specs.Words.{Shade, Take, Collect, CollectMany, CollectFreed, Schedule}
 use Rattle.promises.proofs.CallRuns as R
+use Rattle.rules.specs.Records.{Owed}
+use Rattle.std.specs.Prelude.{Some, None}
 
 -- numbers inside a table have their widths
 position_fits : (m r tag i : ℕ) → m ≤ most_nodes → r ≤ most_slots → Inside m r tag i → i ≤ 65535
@@ -51,8 +51,8 @@ phase_fits : (m r : ℕ) (p : Phase) → m ≤ most_nodes → r ≤ most_slots �
 phase_fits m r p a b h = (position_fits m r (tag_of p) (position p) a b h.0, omega (arith, h.1))
 
 owed_fits : (m : ℕ) (o : Owed) → m ≤ most_nodes → Owable m o → owed_of o ≤ 65535
-owed_fits m Nothing a h = omega arith
-owed_fits m (Node n) a h = omega arith
+owed_fits m None a h = omega arith
+owed_fits m (Some n) a h = omega arith
 
 took_fits : (m r : ℕ) → m ≤ most_nodes → r ≤ most_slots → bound 2 m r ≤ 4294967295
 unfolding bound

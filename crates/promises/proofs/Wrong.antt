@@ -31,8 +31,6 @@ use Rattle.rules.specs.Schedules.{collects}
 use Rattle.rules.specs.declared.Record.{Record}
 use Rattle.rules.specs.declared.Place.{Place}
 use Rattle.rules.specs.declared.Step.{Step}
-use Rattle.rules.specs.declared.Owed.{Owed}
-use Rattle.rules.specs.declared.Owed.TheVariants.{Nothing, Node}
 use Rattle.rules.specs.declared.Phase.{Phase}
 use Rattle.rules.specs.declared.Phase.TheVariants.{Roots, Scan, Append}
 use Rattle.rules.specs.declared.Answer.{Answer}
@@ -40,6 +38,8 @@ use Rattle.rules.specs.declared.Answer.TheVariants.{Started, Named, Linked, Take
 use Rattle.rules.specs.declared.Answer.TheVariants.{Blackened, Whitened, Appended, Counted}
 use Rattle.rules.specs.declared.Answer.TheVariants.{Refused}
 use Rattle.promises.proofs.Figures.{at, three, five}
+use Rattle.rules.specs.Records.{Owed}
+use Rattle.std.specs.Prelude.{Some, None}
 
 -- ---- wrong steps; `kind k f` is honest but for the kind k
 abbrev kind : ℕ → (Step → State → Outcome) → Step → State → Outcome
@@ -166,8 +166,8 @@ abbrev asks : (Record → Bool) → Step → State → Outcome
 asks ok = kind 3 (λ a s. pick (ok s.rec) (phase_step s s.rec.phase) (step a s))
 
 abbrev mild_owed : Owed → ℕ → Bool
-mild_owed Nothing m = leb 0 m
-mild_owed (Node n) m = ltb n m
+mild_owed None m = leb 0 m
+mild_owed (Some n) m = ltb n m
 
 -- the tests of the phase and of the free count, and these others
 abbrev besides : Record → List Bool → Bool
@@ -215,7 +215,7 @@ made p o last steps = with_steps (with_owed (with_phase (fresh_record 5 1 last 2
 
 -- with this free count
 abbrev frees : ℕ → Record
-frees n = with_free (made (Roots 0) Nothing 4 0) n
+frees n = with_free (made (Roots 0) None 4 0) n
 
 abbrev invented : Record → State
 invented x = state (0 ∷ 3 ∷ 0 ∷ 4 ∷ 0 ∷ []) (0 ∷ 0 ∷ 9 ∷ 0 ∷ 0 ∷ []) (0 ∷ 0 ∷ 0 ∷ 0 ∷ 0 ∷ []) x
@@ -279,14 +279,14 @@ table =
     row leaves_next (taking (at 0 0) 0) five (colour 4) 0 1 ∷
     row owed_early (linking (at 0 0) 0 elsewhere) (run (linking (at 0 0) 0 (at 0 0) ∷ []) five) code
     5 3 ∷
-    row absent_late (linking (at 1 0) 0 (at 1 1)) (invented (made (Roots 0) Nothing 4 0)) code 7 8 ∷
-    row misses_last collecting (invented (made (Append 4) Nothing 4 0)) code 0 15 ∷
-    row tells_edge collecting (invented (made (Append 4) Nothing 4 0)) code 7 15 ∷
-    row tells_less collecting (invented (made (Append 4) Nothing 4 0)) detail 0 2 ∷
-    row tells_less (looking (at 1 1)) (invented (made (Roots 0) Nothing 4 0)) detail 0 1 ∷
-    row (asks without_owed) collecting (invented (made (Roots 0) (Node 1) 4 0)) code 0 2 ∷
-    row (asks without_last) collecting (invented (made (Roots 0) Nothing 2 0)) code 0 2 ∷
-    row (asks without_steps) collecting (invented (made (Roots 0) Nothing 4 63)) code 0 2 ∷
+    row absent_late (linking (at 1 0) 0 (at 1 1)) (invented (made (Roots 0) None 4 0)) code 7 8 ∷
+    row misses_last collecting (invented (made (Append 4) None 4 0)) code 0 15 ∷
+    row tells_edge collecting (invented (made (Append 4) None 4 0)) code 7 15 ∷
+    row tells_less collecting (invented (made (Append 4) None 4 0)) detail 0 2 ∷
+    row tells_less (looking (at 1 1)) (invented (made (Roots 0) None 4 0)) detail 0 1 ∷
+    row (asks without_owed) collecting (invented (made (Roots 0) (Some 1) 4 0)) code 0 2 ∷
+    row (asks without_last) collecting (invented (made (Roots 0) None 2 0)) code 0 2 ∷
+    row (asks without_steps) collecting (invented (made (Roots 0) None 4 63)) code 0 2 ∷
     row (asks without_free) collecting (invented (frees 3)) code 0 2 ∷
     row (asks without_free) collecting (invented (frees 0)) code 0 2 ∷
     []

@@ -11,11 +11,11 @@ use Rattle.base.proofs.Tests.{each, split, eq_no, not_is, lt_yes, every_skip, ev
 use Rattle.rules.specs.Table.{FREE}
 use Rattle.rules.specs.Phases.{phase_of}
 use Rattle.rules.specs.Check.{position_ok, second_ok, phase_ok, owed_ok}
-use Rattle.rules.specs.declared.Owed.{Owed}
 use Rattle.rules.proofs.Phases.{phase_there}
 use Rattle.record_words.specs.Words.{word, shade_of, is_record, PHASE, I, K, OWES, OWED}
 use Rattle.record_words.proofs.Widths.{widths}
 use Rattle.record_words.proofs.RoundTrip.{none_told}
+use Rattle.rules.specs.Records.{Owed}
 
 -- one test beside one that is passed
 alone : (b : Bool) → b ≡ every (b ∷ true ∷ [])

@@ -6,8 +6,8 @@ use mathlib.Core.Bool.{Bool, true, false, true≢false}
 use mathlib.Core.List.{List, [], ◌∷◌}
 use mathlib.Core.Path.{◌≡◌, refl, sym, subst, ap, ◌∙◌}
 use lib.Dec.{eqb}
-use lib.ListN.{length, set, drop, drop_of_length-le}
-use lib.Seq.{drop-cons, set-get_or}
+use lib.ListN.{length, set, take, drop}
+use lib.Seq.{drop-cons, take_all, set-get_or}
 use borrow.Author.Tests.{eqb-true, eqb-false}
 use Rattle.base.specs.Choice.{pick}
 use Rattle.base.proofs.Tests.{each, facts, split, eq_no}
@@ -15,19 +15,19 @@ use Rattle.rules.proofs.Phases.{phase_back, phase_there}
 use Rattle.rules.specs.Phases.{tag_of, position, second}
 use Rattle.rules.specs.Records.{with_owed, with_last, with_free}
 use Rattle.rules.specs.declared.Record.{Record}
-use Rattle.rules.specs.declared.Owed.{Owed}
-use Rattle.rules.specs.declared.Owed.TheVariants.{Nothing, Node}
-use Rattle.record_words.specs.Words.{word, owes_of, owed_of, laid_out, words_of}
+use Rattle.record_words.specs.Words.{word, owes_of, owed_of, laid_out, words_of, moved}
 use Rattle.record_words.specs.Words.{shade_of}
 use Rattle.record_words.specs.Words.{record_of, flagged, is_record, Within, WORDS, USED, unused}
-use Rattle.record_words.specs.Words.{NODES, SLOTS, PHASE, I, K, OWES, OWED, LAST, STEPS}
-use Rattle.record_words.specs.Words.{CYCLES, TOOK, BLACKENED, LASTBLACKENED, FREECOUNT}
+use Rattle.record_words.specs.Words.{NODES, SLOTS, PHASE, I, K, OWES, OWED, LAST}
+use Rattle.record_words.specs.Words.{STEPS, CYCLES, TOOK, BLACKENED, LASTBLACKENED, FREECOUNT}
 use Rattle.record_words.proofs.Widths.{widths, words_are, owes_most}
+use Rattle.rules.specs.Records.{Owed}
+use Rattle.std.specs.Prelude.{Some, None}
 
 owed_back : (o : Owed) → shade_of (owes_of o) (owed_of o) ≡ o
 unfolding shade_of pick
-owed_back Nothing = refl
-owed_back (Node n) = refl
+owed_back None = refl
+owed_back (Some n) = refl
 
 pub record_back : (x : Record) → record_of (words_of x) ≡ x
 unfolding record_of
@@ -57,14 +57,19 @@ owed_there owes n one e =
     (λ a. record { owes_is = omega (arith, one, eqb-false owes 0 a); n_is = refl })
 
 -- the k words of w from the n-th on
-abbrev part : List ℕ → ℕ → ℕ → List ℕ
+abbrev pub part : List ℕ → ℕ → ℕ → List ℕ
 part w n zero = []
 part w n (suc k) = word w n ∷ part w (suc n) k
 
-parts : (w : List ℕ) (k n : ℕ) → n + k ≡ length w → drop n w ≡ part w n k
-parts w zero n e = drop_of_length-le w {i = n} (omega arith)
-parts w (suc k) n e = drop-cons w n 0 (omega arith)
-    ∙ ap (λ (v : List ℕ). word w n ∷ v) (parts w k (suc n) (omega arith))
+pub parts : (w : List ℕ) (k n : ℕ) → n + k ≤ length w → take k (drop n w) ≡ part w n k
+parts w zero n h = refl
+parts w (suc k) n h =
+    rw (drop-cons w n 0 (omega arith))
+    (ap (λ (v : List ℕ). word w n ∷ v) (parts w k (suc n) (omega arith)))
+
+-- all words
+pub whole_words : (w : List ℕ) (n : ℕ) → length w ≡ n → w ≡ part w 0 n
+whole_words w n e = sym (take_all n w (omega (arith, e))) ∙ parts w n 0 (omega (arith, e))
 
 -- a word that has no use
 none : (n : ℕ) → n ≤ 0 → 0 ≡ n
@@ -82,7 +87,7 @@ words_back w e =
     let p = phase_there (word w PHASE) (word w I) (word w K) (omega (arith, f))
     (none_told _ (word w K) (sym t.1.1.0)) in
     let o = owed_there (word w OWES) (word w OWED) (omega (arith, f)) (sym t.1.1.1.0) in
-    let all = parts w WORDS 0 (sym (eqb-true (length w) WORDS t.0)) in
+    let all = whole_words w WORDS (eqb-true (length w) WORDS t.0) in
     let u = idle w e in
     let same : words_of (record_of w) ≡ part w 0 WORDS = search (u, p, o) depth 16 in
     same ∙ sym all
@@ -124,20 +129,10 @@ module _ (w : List ℕ) (e : true ≡ is_record w) (x : Record) where
   pub owed_most : x.owed ≡ (record_of w).owed → owed_of x.owed ≤ 65535
   owed_most h = omega (arith, old, ap owed_of h)
 
-  -- the words that a collector's step can change
-  abbrev moved : List ℕ → ℕ → ℕ → ℕ → List ℕ
-  moved v tag i k =
-      set (set (set (set (set (set (set (set (set (set v PHASE tag) I i) K k) LAST x.last) STEPS
-      x.steps) CYCLES x.cycles) TOOK x.took) BLACKENED x.blackened) LASTBLACKENED
-      x.lastblackened) FREECOUNT x.free
-
   pub step_stored : x.m ≡ (record_of w).m → x.r ≡ (record_of w).r → x.owed ≡ (record_of w).owed
-      → (tag i k : ℕ) → tag ≡ tag_of x.phase → i ≡ position x.phase → k ≡ second x.phase
-      → moved w tag i k ≡ words_of x
-  step_stored m r o tag i k p q z =
-      rw (p, q, z)
-      (ap (λ (v : List ℕ). moved v (tag_of x.phase) (position x.phase) (second x.phase))
-      (sym (words_back w e)) ∙ kept (sym m) (sym r) (sym o))
+      → moved w x ≡ words_of x
+  step_stored m r o =
+      ap (λ (v : List ℕ). moved v x) (sym (words_back w e)) ∙ kept (sym m) (sym r) (sym o)
     where
       all : ℕ → ℕ → Owed → List ℕ
       all nodes slots owed =
@@ -147,6 +142,15 @@ module _ (w : List ℕ) (e : true ≡ is_record w) (x : Record) where
 
       kept : {a b c d : ℕ} {f g : Owed} → a ≡ b → c ≡ d → f ≡ g → all a c f ≡ all b d g
       kept h i j = rw (h, i, j) refl
+
+-- the words where M and R are stored
+placed : (w w₁ w₂ : List ℕ) → true ≡ is_record w → (x : Record) → w₁ ≡ set w NODES x.m
+    → w₂ ≡ set w₁ SLOTS x.r → w₂ ≡ x.m ∷ x.r ∷ part w PHASE (WORDS - PHASE)
+unfolding is_record
+placed w w₁ w₂ e x p q =
+    let all = whole_words w WORDS (eqb-true (length w) WORDS (each _ e).0) in
+    let nodes = p ∙ ap (λ (v : List ℕ). set v NODES x.m) all in
+    q ∙ ap (λ (v : List ℕ). set v SLOTS x.r) nodes
 
 -- the words in use from the phase on, stored one after the other
 abbrev stored : List ℕ → Record → ℕ → ℕ → ℕ → ℕ → ℕ → List ℕ
@@ -158,13 +162,24 @@ stored w x tag i k owes n =
 pub all_stored : (w w₁ w₂ : List ℕ) → true ≡ is_record w → (x : Record) (tag i k owes n : ℕ)
     → w₁ ≡ set w NODES x.m → w₂ ≡ set w₁ SLOTS x.r
     → stored w₂ x tag i k owes n ≡ laid_out x tag i k owes n
-unfolding is_record
 all_stored w w₁ w₂ e x tag i k owes n p q =
-    let all = parts w WORDS 0 (sym (eqb-true (length w) WORDS (each _ e).0)) in
-    let nodes = p ∙ ap (λ (v : List ℕ). set v NODES x.m) all in
-    let slots = q ∙ ap (λ (v : List ℕ). set v SLOTS x.r) nodes in
-    ap (λ (v : List ℕ). stored v x tag i k owes n) slots
+    ap (λ (v : List ℕ). stored v x tag i k owes n) (placed w w₁ w₂ e x p q)
     ∙ ap
     (λ (v : List ℕ). x.m ∷ x.r ∷ tag ∷ i ∷ k ∷ owes ∷ n ∷ x.last ∷ x.steps ∷ x.cycles
     ∷ x.took ∷ x.blackened ∷ x.lastblackened ∷ x.free ∷ v)
     (sym (idle w e))
+
+-- the same in the order of put: what is owed, and then what a step can change
+pub all_put : (w w₁ w₂ : List ℕ) → true ≡ is_record w → (x : Record) (owes n : ℕ)
+    → w₁ ≡ set w NODES x.m → w₂ ≡ set w₁ SLOTS x.r → owes ≡ owes_of x.owed → n ≡ owed_of x.owed
+    → moved (set (set w₂ OWES owes) OWED n) x ≡ words_of x
+all_put w w₁ w₂ e x owes n p q o d =
+    let slots = placed w w₁ w₂ e x p q in
+    rw (o, d)
+    (ap (λ (v : List ℕ). moved (set (set v OWES (owes_of x.owed)) OWED (owed_of x.owed)) x) slots
+    ∙ sym
+    (ap
+    (λ (v : List ℕ). stored v x (tag_of x.phase) (position x.phase) (second x.phase)
+    (owes_of x.owed) (owed_of x.owed)) slots)
+    ∙ all_stored w w₁ w₂ e x (tag_of x.phase) (position x.phase) (second x.phase)
+    (owes_of x.owed) (owed_of x.owed) p q)

@@ -5,19 +5,20 @@ use native.Mathlib.Omega.{arith}
 use mathlib.Core.Bool.{Bool, true, false}
 use mathlib.Core.List.{List, [], ◌∷◌}
 use mathlib.Core.Path.{◌≡◌, refl, sym, subst, ◌∙◌}
-use lib.Dec.{eqb}
+use lib.Dec.{eqb, leb}
 use lib.Bits.{bit_or, or_lt, or_add_and, and_le_l, and_le_r}
-use borrow.Author.Tests.{leb-true, eqb-true, eqb-false}
+use borrow.Author.Tests.{leb-true, eqb-true}
+use Rattle.base.specs.Choice.{every}
 use Rattle.base.proofs.Tests.{each, every_skip, every_last, eq_yes, le_yes, pick_no, tests}
 use Rattle.rules.specs.declared.Record.{Record}
 use Rattle.rules.specs.Phases.{most_tag}
 use Rattle.rules.proofs.Phases.{no_second}
-use Rattle.rules.specs.declared.Owed.{Owed}
-use Rattle.rules.specs.declared.Owed.TheVariants.{Nothing, Node}
 use Rattle.record_words.specs.Words.{word, owes_of, owed_of, words_of, most, within, joined}
 use Rattle.record_words.specs.Words.{narrows, spares, narrow, spare, flagged, is_record}
 use Rattle.record_words.specs.Words.{Within, WORDS, NODES, PHASE, OWES, STEPS, CYCLES, TOOK}
 use Rattle.record_words.specs.Words.{USED}
+use Rattle.rules.specs.Records.{Owed}
+use Rattle.std.specs.Prelude.{Some, None}
 
 none_within : (w : List ℕ) → true ≡ within w 0
 unfolding within
@@ -64,58 +65,50 @@ at_most k n h = omega arith
 below : (k n : ℕ) → n ≤ k → n < suc k
 below k n h = omega arith
 
--- the words of 32 bits but for the first, and all bits of these
-abbrev wides : List ℕ → List ℕ
-wides w = word w CYCLES ∷ word w TOOK ∷ []
-
-abbrev wide : List ℕ → ℕ
-wide w = joined (word w STEPS) (wides w)
-
 -- the words' widths as they are tested
-abbrev Tested : List ℕ → Type 0
-Tested w =
-    (word w PHASE ≤ most_tag) × (word w OWES ≤ 1) × (narrow w ≤ 65535) × (wide w ≤ 4294967295)
-    × (spare w ≡ 0)
+abbrev pub tested : List ℕ → List Bool
+tested w =
+    leb (word w PHASE) most_tag ∷ leb (word w OWES) 1 ∷ leb (narrow w) 65535 ∷ eqb (spare w) 0 ∷ []
 
-all_pass : (w : List ℕ) → Tested w → true ≡ within w WORDS
-all_pass w t =
-    let n = each_below 16 (word w NODES) (narrows w) (below 65535 _ t.2) in
-    let l = each_below 32 (word w STEPS) (wides w) (below 4294967295 _ t.3) in
-    let s = each_below 0 (word w USED) (spares w) (omega (arith, t.4)) in
-    let a : Within w 6 = search (at_most, t, n) depth 30 in
+-- each word has 32 bits
+abbrev Sized : List ℕ → Type 0
+Sized w = (i : ℕ) → word w i < 4294967296
+
+all_pass : (w : List ℕ) → Sized w → true ≡ every (tested w) → true ≡ within w WORDS
+all_pass w f e =
+    let t = each _ e in
+    let p = leb-true (word w PHASE) most_tag t.0 in
+    let o = leb-true (word w OWES) 1 t.1.0 in
+    let n = each_below 16 (word w NODES) (narrows w) (below 65535 _ (leb-true _ _ t.1.1.0)) in
+    let s = each_below 0 (word w USED) (spares w) (omega (arith, eqb-true _ _ t.1.1.1.0)) in
+    let l : (word w STEPS ≤ 4294967295) × (word w CYCLES ≤ 4294967295)
+    × (word w TOOK ≤ 4294967295) =
+    (omega (arith, f STEPS), omega (arith, f CYCLES), omega (arith, f TOOK)) in
+    let a : Within w 6 = search (at_most, p, o, n) depth 30 in
     let b : Within w 14 = search (at_most, a, n, l) depth 30 in
     let d : Within w 20 = search (at_most, b, s) depth 30 in
     let e : Within w WORDS = search (at_most, d, s) depth 30 in
     tests_of w WORDS e
 
-passed : (w : List ℕ) → Within w WORDS → Tested w
+passed : (w : List ℕ) → Within w WORDS → true ≡ every (tested w)
 passed w h =
     let n : Below 16 (narrows w) = search (below, h) depth 30 in
-    let l : Below 32 (wides w) = search (below, h) depth 30 in
-    let s : Below 0 (spares w) = search (below, h) depth 30 in (
-      omega arith,
-      omega arith,
-      at_most 65535 _ (joined_below 16 (word w NODES) (narrows w) (omega arith) n),
-      at_most 4294967295 _ (joined_below 32 (word w STEPS) (wides w) (omega arith) l),
-      omega (arith, joined_below 0 (word w USED) (spares w) (omega arith) s),
-    )
+    let s : Below 0 (spares w) = search (below, h) depth 30 in
+    every_skip _ _ _ (le_yes _ _ (omega arith))
+    (every_skip _ _ _ (le_yes _ _ (omega arith))
+    (every_skip _ _ _
+    (le_yes _ _ (at_most 65535 _ (joined_below 16 (word w NODES) (narrows w) (omega arith) n)))
+    (every_last _ _
+    (eq_yes _ _ (omega (arith, joined_below 0 (word w USED) (spares w) (omega arith) s))))))
 
--- a test that fails
-pub fails : (w : List ℕ) → (Tested w → ⊥) → false ≡ within w WORDS
-fails w n = go (within w WORDS) refl
+-- the tests pass just where each word has its width
+pub tests_are : (w : List ℕ) → Sized w → every (tested w) ≡ within w WORDS
+tests_are w f = go (every (tested w)) refl (within w WORDS) refl
   where
-    go : (y : Bool) → within w WORDS ≡ y → false ≡ within w WORDS
-    go false z = sym z
-    go true z = absurd (n (passed w (facts_of w WORDS (sym z))))
-
--- where the others are passed the last one decides
-pub decides : (w : List ℕ) (n s : ℕ) → word w PHASE ≤ most_tag → word w OWES ≤ 1 → n ≤ 65535
-    → n ≡ narrow w → wide w ≤ 4294967295 → s ≡ spare w → eqb s 0 ≡ within w WORDS
-decides w n s p o h e l f = go (eqb s 0) refl
-  where
-    go : (y : Bool) → eqb s 0 ≡ y → y ≡ within w WORDS
-    go true q = all_pass w (p, o, omega (arith, h, e), l, sym f ∙ eqb-true s 0 q)
-    go false q = fails w (λ t. eqb-false s 0 q (f ∙ t.4))
+    go : (a : Bool) → every (tested w) ≡ a → (b : Bool) → within w WORDS ≡ b → a ≡ b
+    go true p b q = all_pass w f (sym p) ∙ q
+    go false p true q = sym p ∙ sym (passed w (facts_of w WORDS (sym q)))
+    go false p false q = refl
 
 pub widths : (w : List ℕ) → true ≡ is_record w → Within w WORDS
 unfolding is_record
@@ -123,8 +116,8 @@ widths w e = facts_of w WORDS (sym (each _ e).1.0)
 
 -- a phase's and a shade's words
 pub owes_most : (o : Owed) → owes_of o ≤ 1
-owes_most Nothing = omega arith
-owes_most (Node n) = omega arith
+owes_most None = omega arith
+owes_most (Some n) = omega arith
 
 flagged_ok : (told : Bool) (n : ℕ) → (told ≡ false → n ≡ 0) → true ≡ flagged told n
 unfolding flagged
@@ -133,8 +126,8 @@ flagged_ok false n h = pick_no _ _ _ _ refl (eq_yes _ _ (h refl))
 
 owed_flagged : (o : Owed) → true ≡ flagged (eqb (owes_of o) 1) (owed_of o)
 unfolding flagged
-owed_flagged Nothing = search tests
-owed_flagged (Node n) = search tests
+owed_flagged None = search tests
+owed_flagged (Some n) = search tests
 
 pub words_are : (x : Record) (w : List ℕ) → w ≡ words_of x → Within (words_of x) WORDS
     → (w ≡ words_of x) × (true ≡ is_record w)

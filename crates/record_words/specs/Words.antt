@@ -1,14 +1,13 @@
 -- [C 2] The record as 32-bit words, for callers that have no enums.
 use Rattle.base.specs.Choice.{pick, every}
 use Rattle.std.specs.Prelude.{ℕ, zero, suc, ◌-◌, ◌≤◌, Bool, true, List, [], ◌∷◌, leb, eqb}
-use Rattle.std.specs.Prelude.{length, get_or, replicate}
+use Rattle.std.specs.Prelude.{length, get_or, set, replicate, Some, None}
 use Rattle.std.specs.Int.Bits.{bit_or}
 use Rattle.rules.specs.Check.{check_of}
 use Rattle.rules.specs.Phases.{most_tag, tag_of, position, second, has_second, phase_of}
 use Rattle.rules.specs.declared.Record.{Record}
 use Rattle.rules.specs.declared.Phase.{Phase}
-use Rattle.rules.specs.declared.Owed.{Owed}
-use Rattle.rules.specs.declared.Owed.TheVariants.{Nothing, Node}
+use Rattle.rules.specs.Records.{Owed}
 
 abbrev pub word : List ℕ → ℕ → ℕ
 word w n = get_or w n 0
@@ -65,12 +64,12 @@ USED = 14
 
 -- whether a shade is owed, and the node: 0 where none is
 abbrev pub owes_of : Owed → ℕ
-owes_of Nothing = 0
-owes_of (Node n) = 1
+owes_of None = 0
+owes_of (Some n) = 1
 
 abbrev pub owed_of : Owed → ℕ
-owed_of Nothing = 0
-owed_of (Node n) = n
+owed_of None = 0
+owed_of (Some n) = n
 
 -- the words that have no use are 0
 abbrev pub unused : List ℕ
@@ -87,8 +86,15 @@ words_of x =
     laid_out x (tag_of x.phase) (position x.phase) (second x.phase) (owes_of x.owed)
     (owed_of x.owed)
 
+-- the words where those that a collector's step can change have become those of x
+abbrev pub moved : List ℕ → Record → List ℕ
+moved w x =
+    set (set (set (set (set (set (set (set (set (set w PHASE (tag_of x.phase)) I
+    (position x.phase)) K (second x.phase)) LAST x.last) STEPS x.steps) CYCLES x.cycles) TOOK
+    x.took) BLACKENED x.blackened) LASTBLACKENED x.lastblackened) FREECOUNT x.free
+
 unfoldable pub shade_of : ℕ → ℕ → Owed
-shade_of owes n = pick (eqb owes 0) Nothing (Node n)
+shade_of owes n = pick (eqb owes 0) None (Some n)
 
 -- the record of words that tell a phase and a shade
 abbrev pub picked_up : List ℕ → Phase → Owed → Record

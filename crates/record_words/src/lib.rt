@@ -3,17 +3,19 @@
 
 ghost use Rattle.std.specs.Prelude.{◌≡◌, true, not, [], ◌∷◌, ◌+◌, ◌<◌, ◌≤◌, ltb, eqb, set};
 ghost use Rattle.base.specs.Choice.{every};
-ghost use Rattle.record_words.specs.Words.{owes_of, owed_of, laid_out, words_of};
+ghost use Rattle.record_words.specs.Words.{owes_of, owed_of, words_of, moved};
 ghost use Rattle.record_words.specs.Words.{shade_of, picked_up, record_of, within, flagged};
 ghost use Rattle.record_words.specs.Words.{is_record, judged, Within, WORDS, word};
 ghost use Rattle.record_words.specs.Words.{NODES, SLOTS, narrow, spare};
 ghost use Rattle.rules.specs.Table.{most_nodes, most_slots, FREE};
+ghost use Rattle.rules.specs.Phases.{position, second};
 ghost use Rattle.rules.specs.Records.{with_owed, with_last, with_free};
 ghost use Rattle.rules.specs.Check.{position_ok, second_ok, last_ok, free_ok, counts_ok, record_ok};
 
-use rules::{Owed, Phase, Record};
+use rules::{Phase, Record};
 
 // How many words there are, and the number of each, by the names of include/jenturik.h.
+// Kept: numbers of places in one array, the C interface: a caller in C keeps the record as words.
 pub const WORDS: usize = 24;
 
 const NODES: usize = 0;
@@ -44,77 +46,28 @@ const LASTBLACKENED: usize = 12;
 
 const FREECOUNT: usize = 13;
 
-fn owes(o: Owed) -> u32
+fn owes(o: Option<u16>) -> u32
     ensures { result ≡ owes_of o }
 {
-    match o {
-        Owed::Nothing => 0,
-        Owed::Node(_) => 1,
-    }
+    u32::from(o.is_some())
 }
 
-fn owed(o: Owed) -> u16
+fn owed(o: Option<u16>) -> u16
     ensures { result ≡ owed_of o }
 {
-    match o {
-        Owed::Nothing => 0,
-        Owed::Node(n) => n,
-    }
-}
-
-fn laid_out(x: Record, tag: u32, i: u16, k: u16, owes: u32, n: u16) -> [u32; WORDS]
-    ensures { result ≡ laid_out x tag i k owes n }
-{
-    let m = x.m;
-    let r = x.r;
-    let last = x.last;
-    let blackened = x.blackened;
-    let lastblackened = x.lastblackened;
-    let free = x.free;
-    [
-        m as u32,
-        r as u32,
-        tag,
-        i as u32,
-        k as u32,
-        owes,
-        n as u32,
-        last as u32,
-        x.steps,
-        x.cycles,
-        x.took,
-        blackened as u32,
-        lastblackened as u32,
-        free as u32,
-        0,
-        0,
-        0,
-        0,
-        0,
-        0,
-        0,
-        0,
-        0,
-        0,
-    ]
+    o.unwrap_or(0)
 }
 
 // The record's words.
+// Kept: this and `record_of` are functions and no `TryFrom`: that words are a record's is tested
+// apart (`is_record`), and code 2 tells it.
 pub fn words_of(x: Record) -> [u32; WORDS]
     ensures value { result ≡ words_of x }
     ensures true_value { true ≡ is_record result }
 {
-    let p = x.phase;
-    let o = x.owed;
-    let tag = rules::tag(p);
-    laid_out(
-        x,
-        tag,
-        rules::position(p),
-        rules::second(p),
-        owes(o),
-        owed(o),
-    )
+    let mut words = [0; WORDS];
+    put(&mut words, x);
+    words
 }
 
 // Stores a word, where it was another one. A call that loads two words at once would wait for a
@@ -123,57 +76,42 @@ fn keep(words: &mut [u32; WORDS], n: usize, v: u32)
     requires { n < WORDS }
     ensures { words.new ≡ set words.old n v }
 {
-    if words[n] == v {
-        return;
+    if words[n] != v {
+        words[n] = v;
     }
-    words[n] = v;
 }
 
-// Words that were a record's become these; those that have no use stay 0.
-fn lay(words: &mut [u32; WORDS], x: Record, tag: u32, i: u16, k: u16, owes: u32, n: u16)
-    requires { true ≡ is_record words.old }
-    ensures { words.new ≡ laid_out x tag i k owes n }
+// Stores the words that a collector's step can change.
+fn put_moved(words: &mut [u32; WORDS], x: Record)
+    ensures words_value { words.new ≡ moved words.old x }
+    ensures position_bound { position x.phase ≤ 65535 }
+    ensures second_bound { second x.phase ≤ 65535 }
 {
-    let m = x.m;
-    let r = x.r;
-    let last = x.last;
-    let blackened = x.blackened;
-    let lastblackened = x.lastblackened;
-    let free = x.free;
-    keep(words, NODES, m as u32);
-    keep(words, SLOTS, r as u32);
-    words[PHASE] = tag;
-    words[I] = i as u32;
-    words[K] = k as u32;
-    words[OWES] = owes;
-    words[OWED] = n as u32;
-    words[LAST] = last as u32;
+    words[PHASE] = rules::tag(x.phase);
+    words[I] = u32::from(rules::position(x.phase));
+    words[K] = u32::from(rules::second(x.phase));
+    words[LAST] = u32::from(x.last);
     words[STEPS] = x.steps;
     words[CYCLES] = x.cycles;
     words[TOOK] = x.took;
-    words[BLACKENED] = blackened as u32;
-    words[LASTBLACKENED] = lastblackened as u32;
-    words[FREECOUNT] = free as u32;
+    words[BLACKENED] = u32::from(x.blackened);
+    words[LASTBLACKENED] = u32::from(x.lastblackened);
+    words[FREECOUNT] = u32::from(x.free);
 }
 
-// Words that were a record's become those of this one.
+// Words that were a record's become those of this one; those that have no use stay 0.
+// Kept: that words are a record's is a clause, here and below, and no type's invariant: C lends the
+// array, with any numbers.
 pub fn put(words: &mut [u32; WORDS], x: Record)
     requires { true ≡ is_record words.old }
     ensures words_value { words.new ≡ words_of x }
     ensures true_value { true ≡ is_record words.new }
 {
-    let p = x.phase;
-    let o = x.owed;
-    let tag = rules::tag(p);
-    lay(
-        words,
-        x,
-        tag,
-        rules::position(p),
-        rules::second(p),
-        owes(o),
-        owed(o),
-    );
+    keep(words, NODES, u32::from(x.m));
+    keep(words, SLOTS, u32::from(x.r));
+    words[OWES] = owes(x.owed);
+    words[OWED] = u32::from(owed(x.owed));
+    put_moved(words, x);
 }
 
 // The same for a record that differs from the words' only in what is owed.
@@ -183,10 +121,9 @@ pub fn put_owed(words: &mut [u32; WORDS], x: Record)
     ensures words_value { words.new ≡ words_of x }
     ensures true_value_2 { true ≡ is_record words.new }
 {
-    let o = x.owed;
-    let node = owed(o);
-    words[OWES] = owes(o);
-    words[OWED] = node as u32;
+    let node = owed(x.owed);
+    words[OWES] = owes(x.owed);
+    words[OWED] = u32::from(node);
 }
 
 // The same for one that differs only in the free list's last node and in the number of free nodes.
@@ -196,10 +133,9 @@ pub fn put_free(words: &mut [u32; WORDS], x: Record)
     ensures words_value { words.new ≡ words_of x }
     ensures true_value_2 { true ≡ is_record words.new }
 {
-    let node = x.last;
-    let count = x.free;
-    words[LAST] = node as u32;
-    words[FREECOUNT] = count as u32;
+    let Record { last, free, .. } = x;
+    words[LAST] = u32::from(last);
+    words[FREECOUNT] = u32::from(free);
 }
 
 // The same for one that does not differ in M, in R and in what is owed.
@@ -211,28 +147,13 @@ pub fn put_step(words: &mut [u32; WORDS], x: Record)
     ensures words_value { words.new ≡ words_of x }
     ensures true_value_2 { true ≡ is_record words.new }
 {
-    let p = x.phase;
-    let position = rules::position(p);
-    let second = rules::second(p);
-    let last = x.last;
-    let blackened = x.blackened;
-    let lastblackened = x.lastblackened;
-    let free = x.free;
-    words[PHASE] = rules::tag(p);
-    words[I] = position as u32;
-    words[K] = second as u32;
-    words[LAST] = last as u32;
-    words[STEPS] = x.steps;
-    words[CYCLES] = x.cycles;
-    words[TOOK] = x.took;
-    words[BLACKENED] = blackened as u32;
-    words[LASTBLACKENED] = lastblackened as u32;
-    words[FREECOUNT] = free as u32;
+    put_moved(words, x);
 }
 
 // All bits of the words of 16 bits.
-fn narrow(w: [u32; WORDS]) -> u32
-    ensures { result ≡ narrow w }
+// Kept: each word is named, since these do not stand side by side: no slice has just them.
+fn narrow(w: &[u32; WORDS]) -> u32
+    ensures { result ≡ narrow w.now }
 {
     w[NODES]
         | w[SLOTS]
@@ -246,52 +167,33 @@ fn narrow(w: [u32; WORDS]) -> u32
 }
 
 // All bits of the words that have no use.
-fn spare(w: [u32; WORDS]) -> u32
-    ensures { result ≡ spare w }
+// Kept: tried as a fold over the slice from word 14 on: Free count takes 5 % longer, 14.8 ns and
+// not 14.1, and Look 3 %.
+fn spare(w: &[u32; WORDS]) -> u32
+    ensures { result ≡ spare w.now }
 {
     w[14] | w[15] | w[16] | w[17] | w[18] | w[19] | w[20] | w[21] | w[22] | w[23]
 }
 
 // Whether each word has its width. The compiler loads several words at once only of those that no
 // step stores, M and R and the ones that have no use: else the load would wait for the stores.
-fn within(w: [u32; WORDS]) -> bool
-    ensures { result ≡ within w WORDS }
+fn within(w: &[u32; WORDS]) -> bool
+    ensures { result ≡ within w.now WORDS }
 {
-    if rules::MOST_TAG < w[PHASE] {
-        return false;
-    }
-    if 1 < w[OWES] {
-        return false;
-    }
-    if 65535 < narrow(w) {
-        return false;
-    }
-    if 4294967295 < w[STEPS] | w[CYCLES] | w[TOOK] {
-        return false;
-    }
-    spare(w) == 0
+    w[PHASE] <= rules::MOST_TAG && w[OWES] <= 1 && narrow(w) <= 65535 && spare(w) == 0
 }
 
 fn flagged(told: bool, n: u32) -> bool
     ensures { result ≡ flagged told n }
 {
-    if told {
-        return true;
-    }
-    n == 0
+    told || n == 0
 }
 
 // Whether words are a record's.
 pub fn is_record(w: [u32; WORDS]) -> bool
     ensures { result ≡ is_record w }
 {
-    if !within(w) {
-        return false;
-    }
-    if !flagged(rules::has_second(w[PHASE]), w[K]) {
-        return false;
-    }
-    flagged(w[OWES] == 1, w[OWED])
+    within(&w) && flagged(rules::has_second(w[PHASE]), w[K]) && flagged(w[OWES] == 1, w[OWED])
 }
 
 // Whether a phase's numbers are in their ranges, by the number of the phase.
@@ -320,43 +222,6 @@ fn phase_ok(m: u32, r: u32, tag: u32, i: u32, k: u32) -> bool
     k < m
 }
 
-// Whether the node owed is good; where none is, its word is 0, which is.
-fn owed_ok(m: u32, n: u32) -> bool
-    ensures { result ≡ every (not (eqb n FREE) ∷ ltb n m ∷ []) }
-{
-    if n == 1 {
-        return false;
-    }
-    n < m
-}
-
-fn last_ok(m: u32, r: u32, n: u32) -> bool
-    requires { r ≤ most_slots }
-    ensures { result ≡ last_ok m r n }
-{
-    if n == 1 {
-        return true;
-    }
-    if n < r + 2 {
-        return false;
-    }
-    n < m
-}
-
-fn free_ok(m: u32, r: u32, last: u32, n: u32) -> bool
-    requires r_le_most_slots { r ≤ most_slots }
-    requires r_bound { r + 2 ≤ m }
-    ensures { result ≡ free_ok m r last n }
-{
-    if m - (r + 2) < n {
-        return false;
-    }
-    if last == 1 {
-        return n == 0;
-    }
-    n != 0
-}
-
 fn counts_ok(w: [u32; WORDS], b: u32) -> bool
     ensures { result ≡ counts_ok (record_of w) b }
 {
@@ -372,7 +237,7 @@ fn counts_ok(w: [u32; WORDS], b: u32) -> bool
     w[TOOK] <= b
 }
 
-// Whether the record passes that words are: the tests of `rules::check`, without the record.
+// Whether the record passes that words are: the tests of `rules::record_ok`, without the record.
 fn record_ok(w: [u32; WORDS]) -> bool
     requires true_value { true ≡ is_record w }
     requires w_bound { word w NODES ≤ most_nodes }
@@ -385,19 +250,24 @@ fn record_ok(w: [u32; WORDS]) -> bool
     if !phase_ok(m, r, w[PHASE], w[I], w[K]) {
         return false;
     }
-    if !owed_ok(m, w[OWED]) {
+    // Where no shade is owed, the node owed is 0, which is good.
+    if !rules::node_ok(m, w[OWED]) {
         return false;
     }
-    if !last_ok(m, r, w[LAST]) {
+    if !rules::last_ok(m, r, w[LAST]) {
         return false;
     }
-    if !free_ok(m, r, w[LAST], w[FREECOUNT]) {
+    if !rules::free_ok(m, r, w[LAST], w[FREECOUNT]) {
         return false;
     }
     counts_ok(w, rules::bound(m as u16, r as u16))
 }
 
 // Codes 1 and 2 of words, for slices of these lengths; 0 where neither is given. No record is made.
+// Kept: a number and no Result: the codes are the rules' numbers, and the clause is `judged` [C 4].
+// Kept: this and the three above have the tests of rules once more, on words: tried as
+// `rules::check` of the record that words are: jenturik_link and jenturik_shade take 7 % longer,
+// 25.4 ns each and not 23.6, and jenturik_free_count 14 %, 18.5 ns and not 16.2.
 pub fn judge(lefts: usize, rights: usize, colours: usize, w: [u32; WORDS]) -> u8
     ensures { result ≡ judged (lefts ∷ rights ∷ []) colours w }
 {
@@ -413,16 +283,16 @@ pub fn judge(lefts: usize, rights: usize, colours: usize, w: [u32; WORDS]) -> u8
     0
 }
 
-fn shade_of(owes: u32, n: u16) -> Owed
+#[tactic(auto, unfolding(base::specs::Choice::pick, crate::specs::Words::shade_of))]
+fn shade_of(owes: u32, n: u16) -> Option<u16>
     ensures { result ≡ shade_of owes n }
 {
-    if owes == 0 {
-        return Owed::Nothing;
-    }
-    Owed::Node(n)
+    if owes == 0 { None } else { Some(n) }
 }
 
-fn picked_up(w: [u32; WORDS], phase: Phase, owed: Owed) -> Record
+// Kept: the casts narrow by `as`, here, above and below: that each word fits is what `Within` says,
+// so `try_from` would answer an error that cannot come; std has no `From` of 32 bits to `usize`.
+fn picked_up(w: [u32; WORDS], phase: Phase, owed: Option<u16>) -> Record
     requires { Within w WORDS }
     ensures { result ≡ picked_up w phase owed }
 {

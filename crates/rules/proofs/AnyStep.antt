@@ -17,19 +17,18 @@ use Rattle.rules.specs.Editor.{relink, take_next, take_first, take}
 use Rattle.rules.specs.Collector.{collect}
 use Rattle.rules.specs.Steps.{step}
 use Rattle.rules.specs.declared.Answer.{Answer}
-use Rattle.rules.specs.declared.Owed.{Owed}
-use Rattle.rules.specs.declared.Owed.TheVariants.{Nothing, Node}
 use Rattle.rules.specs.declared.Place.{Place}
 use Rattle.rules.specs.declared.Record.{Record}
 use Rattle.rules.specs.declared.Step.{Step}
-use Rattle.rules.specs.declared.Walk.{Walk}
-use Rattle.rules.specs.declared.Walk.TheVariants.{At, Damaged}
+use Rattle.rules.specs.Places.{Walk}
+use Rattle.std.specs.Prelude.{Ok, Err, Some, None}
 use Rattle.rules.proofs.Changes.{shaded_length}
 use Rattle.rules.proofs.Rows.{edge_lengths}
 use Rattle.rules.proofs.Steady.{count, Kept, Passed, passed, kept}
 use Rattle.rules.proofs.Walks.{Ends, ends, slot_below}
+use Rattle.rules.specs.Records.{Owed}
 
-owes_ok : (m n : ℕ) → n ≢ FREE → n < m → true ≡ owed_ok m (Node n)
+owes_ok : (m n : ℕ) → n ≢ FREE → n < m → true ≡ owed_ok m (Some n)
 unfolding owed_ok
 owes_ok m n f h =
     every_skip _ _ _ (not_is _ (eq_no n FREE f)) (every_last _ _ (lt_yes _ _ h))
@@ -60,8 +59,8 @@ module _ (s : State) (e : 0 ≡ check s) where
   arrives : (w : Walk) (go : ℕ → Outcome) → Ends x.m w
       → ((n : ℕ) → n ≢ FREE → n < x.m → Kept s (go n)) → Kept s (arrive s w go)
   unfolding arrive
-  arrives (At n) go h p = p n h.0 h.1
-  arrives (Damaged n side) go h p = stays _
+  arrives (Ok n) go h p = p n h.0 h.1
+  arrives (Err d) go h p = stays _
 
   -- a walk from a slot
   walks : (p : Place) → 0 ≡ place_code (sides s) x.r p → Ends x.m (walk s p)
@@ -93,8 +92,8 @@ module _ (s : State) (e : 0 ≡ check s) where
 
   pays : (o : Owed) → Kept s (pay s o)
   unfolding pay owed_ok
-  pays Nothing = stays _
-  pays (Node n) = split (Kept s) _ _ _ (λ q. stays _) (λ q. record {
+  pays None = stays _
+  pays (Some n) = split (Kept s) _ _ _ (λ q. stays _) (λ q. record {
     rec = record {
       m = refl;
       r = refl;

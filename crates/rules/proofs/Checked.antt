@@ -17,10 +17,10 @@ use Rattle.rules.specs.Check.{bound, cycle_ok, told_ok, counts_ok, record_ok, ch
 use Rattle.rules.specs.Facts.{Checked, Tells, Inside, Limited, InRange, Owable}
 use Rattle.rules.specs.declared.Record.{Record}
 use Rattle.rules.specs.declared.Phase.{Phase}
-use Rattle.rules.specs.declared.Owed.{Owed}
-use Rattle.rules.specs.declared.Owed.TheVariants.{Nothing, Node}
 use Rattle.rules.proofs.Phases.{no_second}
 use Rattle.rules.proofs.Sizes.{square}
+use Rattle.rules.specs.Records.{Owed}
+use Rattle.std.specs.Prelude.{Some, None}
 
 -- both tests are passed where the code is 0
 both : (s k : Bool) → ◌≡◌ {A = ℕ} 0 (pick s (pick k 0 2) 1) → (true ≡ s) × (true ≡ k)
@@ -96,8 +96,8 @@ tells_ok x b t = search (tests, t) depth 12
 
 owable_of : (m : ℕ) (o : Owed) → owed_ok m o ≡ true → Owable m o
 unfolding owed_ok
-owable_of m Nothing e = tt
-owable_of m (Node n) e = ltb-true _ _ (each _ (sym e)).1.0
+owable_of m None e = tt
+owable_of m (Some n) e = ltb-true _ _ (each _ (sym e)).1.0
 
 pub good : (ll rl cl : ℕ) (x : Record) → 0 ≡ check_of (ll ∷ rl ∷ []) cl x → Checked ll rl cl x
 unfolding size_ok record_ok free_ok counts_ok cycle_ok bound

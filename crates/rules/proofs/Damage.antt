@@ -23,13 +23,12 @@ use Rattle.rules.specs.declared.Place.{Place}
 use Rattle.rules.specs.declared.Step.{Step}
 use Rattle.rules.specs.declared.Answer.{Answer}
 use Rattle.rules.specs.declared.Answer.TheVariants.{Refused}
-use Rattle.rules.specs.declared.Walk.{Walk}
-use Rattle.rules.specs.declared.Walk.TheVariants.{At, Damaged}
-use Rattle.rules.specs.declared.Owed.{Owed}
-use Rattle.rules.specs.declared.Owed.TheVariants.{Nothing, Node}
+use Rattle.rules.specs.Places.{Walk}
+use Rattle.std.specs.Prelude.{Ok, Err, Some, None}
 use Rattle.rules.proofs.Checked.{m_low}
 use Rattle.rules.proofs.Refusals.{Early, check_early, either, damaged}
 use Rattle.rules.proofs.PhaseSteps.{collect_comes}
+use Rattle.rules.specs.Records.{Owed}
 
 place_early : (E r : ℕ) (p : Place) → Early (place_code E r p)
 unfolding place_code
@@ -46,8 +45,8 @@ side_early E side =
 
 owed_early_lem : (o : Owed) → Early (owed_code o)
 unfolding owed_code
-owed_early_lem Nothing = (omega arith, λ e. omega arith)
-owed_early_lem (Node n) = (omega arith, λ e. omega arith)
+owed_early_lem None = (omega arith, λ e. omega arith)
+owed_early_lem (Some n) = (omega arith, λ e. omega arith)
 
 first_none : Early (first [])
 unfolding first
@@ -79,8 +78,8 @@ module _ (s : State) where
   module _ (h : check s ≡ 0) where
     -- where a walk ends, and what it met there
     abbrev Fits : Walk → Type 0
-    Fits (At n) = Unit {0}
-    Fits (Damaged n side) = bad_edge s.rec.m (edge s side n) ≡ true
+    Fits (Ok n) = Unit {0}
+    Fits (Err d) = bad_edge s.rec.m (edge s d.side d.node) ≡ true
 
     walks : (b k w n : ℕ) → Fits (walk_from b (edge s) s.rec.m k w n)
     unfolding walk_from
@@ -91,8 +90,8 @@ module _ (s : State) where
     arrives : (w : Walk) → Fits w → (go : ℕ → Outcome) → ((n : ℕ) → Good (go n))
         → Good (arrive s w go)
     unfolding arrive
-    arrives (At n) f go p = p n
-    arrives (Damaged n side) f go p = damaged s (m_low _ _ s.rec (sym h)) side n f
+    arrives (Ok n) f go p = p n
+    arrives (Err d) f go p = damaged s (m_low _ _ s.rec (sym h)) d.side d.node f
 
     way : (p : Place) (go : ℕ → Outcome) → ((n : ℕ) → Good (go n)) → Good (arrive s (walk s p) go)
     way p go = arrives (walk s p) (walks _ _ _ _) go
@@ -105,8 +104,8 @@ module _ (s : State) where
 
     pays : (o : Owed) → Good (pay s o)
     unfolding pay
-    pays Nothing = other {code = 6} (omega arith) (λ e. omega arith) (λ e. omega arith)
-    pays (Node n) = split Good _ _ _ (λ q. colour_met (ltb-true _ _ q)) (λ q. done refl refl)
+    pays None = other {code = 6} (omega arith) (λ e. omega arith) (λ e. omega arith)
+    pays (Some n) = split Good _ _ _ (λ q. colour_met (ltb-true _ _ q)) (λ q. done refl refl)
 
     takes : (side n : ℕ) → Good (take_first s side (edge s left FREE) n)
     unfolding take_first take_next

@@ -10,11 +10,10 @@ use Rattle.rules.specs.Editor.{take_first, take}
 use Rattle.rules.specs.Collector.{collect}
 use Rattle.rules.specs.Steps.{step, code_of}
 use Rattle.rules.specs.declared.Step.{Step}
-use Rattle.rules.specs.declared.Walk.{Walk}
-use Rattle.rules.specs.declared.Walk.TheVariants.{At, Damaged}
-use Rattle.rules.specs.declared.Owed.{Owed}
-use Rattle.rules.specs.declared.Owed.TheVariants.{Nothing, Node}
+use Rattle.rules.specs.Places.{Walk}
+use Rattle.std.specs.Prelude.{Ok, Err, Some, None}
 use Rattle.rules.proofs.PhaseSteps.{collect_comes}
+use Rattle.rules.specs.Records.{Owed}
 
 module _ (s : State) where
   abbrev Stays : Outcome → Type 0
@@ -37,13 +36,13 @@ module _ (s : State) where
 
   arrives : (w : Walk) (go : ℕ → Outcome) → ((n : ℕ) → Stays (go n)) → Stays (arrive s w go)
   unfolding arrive
-  arrives (At n) go p = p n
-  arrives (Damaged n side) go p = refused
+  arrives (Ok n) go p = p n
+  arrives (Err d) go p = refused
 
   pays : (owed : Owed) → Stays (pay s owed)
   unfolding pay
-  pays Nothing = refused
-  pays (Node n) = either _ _ _ refused done
+  pays None = refused
+  pays (Some n) = either _ _ _ refused done
 
   collects : Stays (collect s)
   collects = collect_comes s Stays record {

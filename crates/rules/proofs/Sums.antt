@@ -18,13 +18,12 @@ use Rattle.rules.specs.Steps.{step, collecting, code_of}
 use Rattle.rules.specs.Schedules.{collects}
 use Rattle.rules.specs.Changes.{differing, changes, changes_all}
 use Rattle.rules.specs.declared.Step.{Step}
-use Rattle.rules.specs.declared.Walk.{Walk}
-use Rattle.rules.specs.declared.Walk.TheVariants.{At, Damaged}
-use Rattle.rules.specs.declared.Owed.{Owed}
-use Rattle.rules.specs.declared.Owed.TheVariants.{Nothing, Node}
+use Rattle.rules.specs.Places.{Walk}
+use Rattle.std.specs.Prelude.{Ok, Err, Some, None}
 use Rattle.rules.proofs.PhaseSteps.{collect_comes}
 use Rattle.rules.proofs.Laws.{unless_refused, step_collecting}
 use Rattle.rules.proofs.Changes.{unchanged, most_more}
+use Rattle.rules.specs.Records.{Owed}
 
 -- where code 1 or 2 is given, no step is done
 module _ (s : State) (h : check s ≡ 0 → ⊥) where
@@ -109,13 +108,13 @@ module _ (s : State) (n : ℕ) (some : 1 ≤ n) where
 
   arrives : (w : Walk) (go : ℕ → Outcome) → ((i : ℕ) → Few (go i)) → Few (arrive s w go)
   unfolding arrive
-  arrives (At i) go p = p i
-  arrives (Damaged i side) go p = none
+  arrives (Ok i) go p = p i
+  arrives (Err d) go p = none
 
   pays : (owed : Owed) → Few (pay s owed)
   unfolding pay
-  pays Nothing = none
-  pays (Node i) = either _ _ _ none (shaded i)
+  pays None = none
+  pays (Some i) = either _ _ _ none (shaded i)
 
   collected : Few (collect s)
   unfolding append with_edge cleared

@@ -1,5 +1,5 @@
 -- The walk, turn by turn, and that it ends inside the table.
-use Prim.Native.Nat.{ℕ, zero, suc, ◌-◌, ◌/◌, ◌%◌, ◌<◌, ◌≤◌}
+use Prim.Native.Nat.{ℕ, zero, suc, ◌-◌, ◌/◌, ◌%◌, ◌<◌, ◌≤◌, ◌+◌}
 use mathlib.Core.Bool.{Bool, true, false}
 use mathlib.Core.Path.{◌≡◌, refl, sym, subst, ◌∙◌}
 use mathlib.Core.Logic.{◌≢◌}
@@ -13,8 +13,8 @@ use Rattle.rules.specs.Table.{bad_edge, FREE}
 use Rattle.rules.specs.Places.{sides_ok, turns_ok, place_code, walk_from}
 use Rattle.rules.specs.Editor.{side_code}
 use Rattle.rules.specs.declared.Place.{Place}
-use Rattle.rules.specs.declared.Walk.{Walk}
-use Rattle.rules.specs.declared.Walk.TheVariants.{At, Damaged}
+use Rattle.rules.specs.Places.{Walk}
+use Rattle.std.specs.Prelude.{Ok, Err}
 use Rattle.rules.proofs.Laws.{fine_edge, not_free}
 
 pub slot_below : (E r : ℕ) (p : Place) → 0 ≡ place_code E r p → p.slot < r
@@ -33,23 +33,31 @@ side_below E side =
     (λ a e. absurd (omega arith))
 
 module _ (b : ℕ) (edges : ℕ → ℕ → ℕ) (m : ℕ) where
-  -- one turn
-  pub turn : (k w n : ℕ) → 0 < k
-      → walk_from b edges m k w n ≡ pick (eqb n 0) (At 0)
-      (pick (bad_edge m (edges (w % b) n)) (Damaged n (w % b))
+  one : (k w n : ℕ) → 0 < k
+      → walk_from b edges m k w n ≡ pick (eqb n 0) (Ok 0)
+      (pick (bad_edge m (edges (w % b) n)) (Err (record { node = n; side = w % b }))
       (walk_from b edges m (k - 1) (w / b) (edges (w % b) n)))
   unfolding walk_from
-  turn zero w n h = absurd (omega arith)
-  turn (suc k) w n h = rw sub-one
+  one zero w n h = absurd (omega arith)
+  one (suc k) w n h = rw sub-one
 
-  pub arrived : (k w n : ℕ) → k ≤ 0 → At n ≡ walk_from b edges m k w n
+  -- one turn, after i of k
+  pub turn : (k i w n : ℕ) → i < k
+      → walk_from b edges m (k - i) w n ≡ pick (eqb n 0) (Ok 0)
+      (pick (bad_edge m (edges (w % b) n)) (Err (record { node = n; side = w % b }))
+      (walk_from b edges m (k - (i + 1)) (w / b) (edges (w % b) n)))
+  turn k i w n h =
+      let less : k - i - 1 ≡ k - (i + 1) = omega arith in
+      rw (← less) (one (k - i) w n (omega arith))
+
+  pub arrived : (k w n : ℕ) → k ≤ 0 → Ok n ≡ walk_from b edges m k w n
   unfolding walk_from
   arrived zero w n h = refl
   arrived (suc k) w n h = absurd (omega arith)
 
 abbrev pub Below : ℕ → Walk → Type 0
-Below m (At n) = n < m
-Below m (Damaged n side) = n < m
+Below m (Ok n) = n < m
+Below m (Err d) = d.node < m
 
 pub below : (b : ℕ) (edges : ℕ → ℕ → ℕ) (m k w n : ℕ) → n < m → Below m (walk_from b edges m k w n)
 unfolding walk_from
@@ -60,7 +68,7 @@ below b edges m (suc k) w n h =
 
 -- where a walk arrives
 pub at_below : (b : ℕ) (edges : ℕ → ℕ → ℕ) (m k w n t : ℕ) (v : Walk) → v ≡ walk_from b edges m k w n
-    → v ≡ At t → n < m → t < m
+    → v ≡ Ok t → n < m → t < m
 at_below b edges m k w n t v e q h = subst (Below m) (sym e ∙ q) (below b edges m k w n h)
 
 -- a bit is a side of a table of two edges
@@ -72,8 +80,8 @@ two_sides (suc k) w = every_skip _ _ _ (lt_yes (w % 2) 2 (omega arith))
 
 -- a walk from a node that a shade may be owed to ends at one: not at FREE
 abbrev pub Ends : ℕ → Walk → Type 0
-Ends m (At n) = (n ≢ FREE) × (n < m)
-Ends m (Damaged n side) = Unit {0}
+Ends m (Ok n) = (n ≢ FREE) × (n < m)
+Ends m (Err d) = Unit {0}
 
 pub ends : (b : ℕ) (edges : ℕ → ℕ → ℕ) (m k w n : ℕ) → n ≢ FREE → n < m
     → Ends m (walk_from b edges m k w n)

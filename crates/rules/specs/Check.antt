@@ -1,12 +1,12 @@
 -- [Codes 1] and [Codes 2]: the sizes and the record's test. [Order 5] Nothing else is judged.
 use Rattle.base.specs.Choice.{pick, every}
 use Rattle.std.specs.Prelude.{ℕ, ◌+◌, ◌-◌, ◌*◌, Bool, true, ◌||◌, not, List, [], ◌∷◌, ◌++◌, map, length, ltb, leb, eqb}
+use Rattle.std.specs.Prelude.{Some, None}
 use Rattle.rules.specs.Table.{State, FREE, most_nodes, most_slots}
 use Rattle.rules.specs.Phases.{roots_tag, scan_tag, tag_of, position, second, has_second}
 use Rattle.rules.specs.declared.Record.{Record}
 use Rattle.rules.specs.declared.Phase.{Phase}
-use Rattle.rules.specs.declared.Owed.{Owed}
-use Rattle.rules.specs.declared.Owed.TheVariants.{Nothing, Node}
+use Rattle.rules.specs.Records.{Owed}
 
 -- [Table 1] the ranges of M and R; [Codes 1] and each array has M entries. The lengths are those of
 -- the edges, and the colours'.
@@ -31,8 +31,8 @@ phase_ok m r p =
 
 -- [Codes 2] the node owed: any but FREE
 unfoldable pub owed_ok : ℕ → Owed → Bool
-owed_ok m Nothing = true
-owed_ok m (Node n) = every (not (eqb n FREE) ∷ ltb n m ∷ [])
+owed_ok m None = true
+owed_ok m (Some n) = every (not (eqb n FREE) ∷ ltb n m ∷ [])
 
 -- [Codes 2] last: a node that can be free, or FREE for none [Record 5]
 unfoldable pub last_ok : ℕ → ℕ → ℕ → Bool

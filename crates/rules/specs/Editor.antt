@@ -3,15 +3,13 @@
 -- under `first`; [Order 2] the walks; [Order 3] the rest of Take. [Order 4] `did` stands after
 -- every test.
 use Rattle.base.specs.Choice.{pick, every, first}
-use Rattle.std.specs.Prelude.{ℕ, ◌+◌, Bool, ◌||◌, [], ◌∷◌, ltb, leb, eqb}
+use Rattle.std.specs.Prelude.{ℕ, ◌+◌, Bool, ◌||◌, [], ◌∷◌, ltb, leb, eqb, Some, None}
 use Rattle.rules.specs.Table.{State, sides, Outcome, did, refuse_with, refuse, unless}
 use Rattle.rules.specs.Table.{NIL, FREE, left, edge, with_edge, shade, bad_colour}
-use Rattle.rules.specs.Records.{owing, paid, with_last, less_free}
+use Rattle.rules.specs.Records.{Owed, owing, paid, with_last, less_free}
 use Rattle.rules.specs.Check.{check}
 use Rattle.rules.specs.Places.{place_code, walk, arrive}
 use Rattle.rules.specs.declared.Place.{Place}
-use Rattle.rules.specs.declared.Owed.{Owed}
-use Rattle.rules.specs.declared.Owed.TheVariants.{Nothing, Node}
 use Rattle.rules.specs.declared.Answer.TheVariants.{Named, Linked, Shaded, Taken}
 
 -- [Codes 10] a side that the table has
@@ -20,8 +18,8 @@ side_code E side = pick (ltb side E) 0 10
 
 -- [Codes 5] a shade is owed
 unfoldable pub owed_code : Owed → ℕ
-owed_code Nothing = 0
-owed_code (Node n) = 5
+owed_code None = 0
+owed_code (Some n) = 5
 
 -- [Look 1] names the node at a place; [Look 2] the state stays
 unfoldable pub look : Place → State → Outcome
@@ -51,8 +49,8 @@ link p side q s =
 -- [Shade 1] the node owed is shaded and answered, [Shade 2] and nothing is owed; [Codes 6] else
 -- refused
 unfoldable pub pay : State → Owed → Outcome
-pay s Nothing = refuse s 6 0
-pay s (Node n) =
+pay s None = refuse s 6 0
+pay s (Some n) =
     pick (bad_colour s n) (refuse s 14 n) (did (Shaded n) (shade s n) (paid s.rec))
 
 -- [Shade 3] a step of its own, after Link's

@@ -1,13 +1,12 @@
 -- What codes 1 and 2 being 0 tells, as plain facts: what the inner functions rely on. No promise
 -- rests on this file.
-use Rattle.std.specs.Prelude.{ℕ, zero, suc, ◌+◌, ◌≤◌, ◌<◌, ◌≡◌, ◌≢◌, true, false, eqb}
+use Rattle.std.specs.Prelude.{ℕ, zero, suc, ◌+◌, ◌≤◌, ◌<◌, ◌≡◌, ◌≢◌, true, false, eqb, Some, None}
 use Rattle.rules.specs.Table.{most_nodes, most_slots}
 use Rattle.base.specs.Choice.{pick}
 use Rattle.rules.specs.Phases.{scan_tag, append_tag, tag_of, position, second, has_second}
 use Rattle.rules.specs.declared.Record.{Record}
 use Rattle.rules.specs.declared.Phase.{Phase}
-use Rattle.rules.specs.declared.Owed.{Owed}
-use Rattle.rules.specs.declared.Owed.TheVariants.{Nothing, Node}
+use Rattle.rules.specs.Records.{Owed}
 
 -- a number above any count of steps: B is smaller, whatever M and R are
 abbrev pub many_steps : ℕ
@@ -39,8 +38,8 @@ Nears m q p = (eqb (tag_of q) append_tag ≡ false) × (quiet m q ≤ suc (quiet
 
 -- nothing, or a node of the table
 abbrev pub Owable : ℕ → Owed → Type 0
-Owable m Nothing = Unit {0}
-Owable m (Node n) = n < m
+Owable m None = Unit {0}
+Owable m (Some n) = n < m
 
 -- what earlier cycles told, b being B
 pub record Tells (x : Record) (b : ℕ) : Type 0 where

@@ -1,10 +1,9 @@
 -- Places and their walk; codes 3 and 4: the section Places of docs/RULES.md.
 use Rattle.base.specs.Choice.{pick, every}
-use Rattle.std.specs.Prelude.{ℕ, zero, suc, ◌+◌, ◌/◌, ◌%◌, ◌^◌, Bool, true, [], ◌∷◌, ltb, leb, eqb}
+use Rattle.std.specs.Prelude.{ℕ, zero, suc, Result, Ok, Err, ◌+◌, ◌/◌, ◌%◌, ◌^◌, Bool, true, [], ◌∷◌, ltb, leb, eqb}
 use Rattle.rules.specs.Table.{State, sides, Outcome, refuse_with, edge, bad_edge, NIL}
 use Rattle.rules.specs.declared.Place.{Place}
-use Rattle.rules.specs.declared.Walk.{Walk}
-use Rattle.rules.specs.declared.Walk.TheVariants.{At, Damaged}
+use Rattle.rules.specs.declared.Damaged.{Damaged}
 
 -- a turn is one bit where a node has two edges, and two bits where it has three: a digit below this
 abbrev pub base : ℕ → ℕ
@@ -36,13 +35,17 @@ place_code E r p = pick (ltb p.slot r) (pick (turns_ok E p) 0 4) 3
 abbrev pub start : Place → ℕ
 start p = p.slot + 2
 
+-- where a walk ends, or the node whose edge is bad and the side of that edge
+abbrev pub Walk : Type 0
+Walk = Result ℕ Damaged
+
 -- [Places 4] an edge for each turn, the lowest bit first; [Places 5] at NIL the walk ends;
--- [Places 7] nothing else is read. `Damaged` has the node whose edge is bad, and the side.
+-- [Places 7] nothing else is read
 unfoldable pub walk_from : ℕ → (ℕ → ℕ → ℕ) → ℕ → ℕ → ℕ → ℕ → Walk
-walk_from b edges m zero word n = At n
+walk_from b edges m zero word n = Ok n
 walk_from b edges m (suc turns) word n =
-    pick (eqb n NIL) (At NIL)
-    (pick (bad_edge m (edges (word % b) n)) (Damaged n (word % b))
+    pick (eqb n NIL) (Ok NIL)
+    (pick (bad_edge m (edges (word % b) n)) (Err (record { node = n; side = word % b }))
     (walk_from b edges m turns (word / b) (edges (word % b) n)))
 
 abbrev pub walk : State → Place → Walk
@@ -50,5 +53,5 @@ walk s p = walk_from (base (sides s)) (edge s) s.rec.m p.count p.word (start p)
 
 -- [Places 6] a bad edge on the way is the step's own refusal
 unfoldable pub arrive : State → Walk → (ℕ → Outcome) → Outcome
-arrive s (At n) go = go n
-arrive s (Damaged n side) go = refuse_with s 7 n side
+arrive s (Ok n) go = go n
+arrive s (Err d) go = refuse_with s 7 d.node d.side

@@ -1,12 +1,14 @@
 -- The record: how Fresh makes it, and how a step moves it. [Record 12] What is not told to change
 -- is as it was.
 use Rattle.base.specs.Choice.{pick}
-use Rattle.std.specs.Prelude.{ℕ, ◌+◌, ◌-◌, ◌%◌, ltb, eqb}
+use Rattle.std.specs.Prelude.{ℕ, ◌+◌, ◌-◌, ◌%◌, ltb, eqb, Option, Some, None}
 use Rattle.rules.specs.declared.Record.{Record}
 use Rattle.rules.specs.declared.Phase.{Phase}
 use Rattle.rules.specs.declared.Phase.TheVariants.{Roots, Scan, Append}
-use Rattle.rules.specs.declared.Owed.{Owed}
-use Rattle.rules.specs.declared.Owed.TheVariants.{Nothing, Node}
+
+-- [Record 4] the shade owed: nothing, or a node
+abbrev pub Owed : Type 0
+Owed = Option ℕ
 
 -- [Fresh 5] the record that Fresh makes
 abbrev pub fresh_record : ℕ → ℕ → ℕ → ℕ → Record
@@ -15,7 +17,7 @@ fresh_record m r last free =
       m = m;
       r = r;
       phase = Roots 0;
-      owed = Nothing;
+      owed = None;
       last = last;
       steps = 0;
       cycles = 0;
@@ -94,11 +96,11 @@ more_free x = with_free x (x.free + 1)
 
 -- [Link 2] node n's shade is owed [Record 4]
 abbrev pub owing : Record → ℕ → Record
-owing x n = with_owed x (Node n)
+owing x n = with_owed x (Some n)
 
 -- [Shade 2] nothing is owed
 abbrev pub paid : Record → Record
-paid x = with_owed x Nothing
+paid x = with_owed x None
 
 -- [Collector 2] one more step is done [Record 6], and the phase is p now
 abbrev pub moved : Record → Phase → Record

@@ -9,9 +9,9 @@ ghost use Rattle.rules.specs.Table.{refusal_with, refusal};
 ghost use Rattle.base.specs.Choice.{every};
 ghost use Rattle.rules.specs.Facts.{many_steps};
 ghost use Rattle.rules.specs.Phases.{tag_of, position, second, has_second, phase_of};
-ghost use Rattle.rules.specs.Records.{fresh_record, with_phase, with_owed, with_last};
+ghost use Rattle.rules.specs.Records.{fresh_record, with_phase, with_last};
 ghost use Rattle.rules.specs.Records.{less_free, more_free, owing, paid, moved, marked, next};
-ghost use Rattle.rules.specs.Records.{rescan, one_more, closed, after_append};
+ghost use Rattle.rules.specs.Records.{rescan, closed, after_append};
 ghost use Rattle.rules.specs.Check.{size_ok, phase_ok, owed_ok, last_ok, free_ok, bound, cycle_ok};
 ghost use Rattle.rules.specs.Check.{in_limits, told_ok, counts_ok, record_ok, check_of};
 ghost use Rattle.rules.specs.Steps.{code_of, node_of, detail_of};
@@ -30,16 +30,15 @@ pub const LEFT: u8 = 0;
 pub const RIGHT: u8 = 1;
 
 // [Codes 15] Why Append should not meet a node.
+// Kept: these and the sides above are numbers, as a detail is one in `refused_with` and in C.
 pub const GRAY_NODE: u8 = 0;
 
 pub const WHITE_ROOT: u8 = 1;
 
 pub const WHITE_LAST: u8 = 2;
 
-// [Record 7] The count of cycles goes no further.
-const MOST_CYCLES: u32 = 4294967295;
-
 // [C 2] The number of each phase, and the largest of them.
+// Kept: numbers, since C has no enums; the definition `tag_of` has the same.
 const ROOTS_TAG: u32 = 0;
 
 pub const SCAN_TAG: u32 = 1;
@@ -71,20 +70,15 @@ pub enum Phase {
     Append(u16),
 }
 
-// The shade owed: nothing, or a node. NIL may be owed.
-#[derive(Clone, Copy)]
-pub enum Owed {
-    Nothing,
-    Node(u16),
-}
-
 // What travels beside the table, by value.
 #[derive(Clone, Copy)]
 pub struct Record {
     pub m: u16,
     pub r: u16,
     pub phase: Phase,
-    pub owed: Owed,
+    // The node whose shade is owed, if one is. NIL may be owed.
+    pub owed: Option<u16>,
+    // Kept: FREE (1) where the list is empty, as `last_ok`, `fresh_last` and C's words have it.
     pub last: u16,
     pub steps: u32,
     pub cycles: u32,
@@ -108,6 +102,7 @@ pub enum Answer {
     Whitened(u16),
     Appended(u16),
     Counted(u16),
+    // Kept: a code is a number of the rules, which `code_of` tells and C takes.
     Refused(u8, u16, u8),
 }
 
@@ -134,14 +129,16 @@ pub struct Place {
     pub word: u32,
 }
 
-// Where a walk ends, or the node whose edge is bad and the side of that edge.
+// Why a walk ends early: the edge of this node is bad, on this side.
 #[derive(Clone, Copy)]
-pub enum Walk {
-    At(u16),
-    Damaged(u16, u8),
+pub struct Damaged {
+    pub node: u16,
+    pub side: u8,
 }
 
 // A step as a kind and seven numbers: 0 take, 1 link, 2 shade, 3 collect, 4 look.
+// Kept: a kind and a side are any numbers, since [Codes 10] is for those that are none; the places
+// are three numbers each, as C's words and the definition `step_of` have them.
 #[derive(Clone, Copy)]
 pub struct Step {
     pub kind: u32,
@@ -156,6 +153,7 @@ pub struct Step {
 
 // What a run of steps hands back: how many were done, the code that ended it or 0, with its detail,
 // how many colours they changed in all, and the record.
+// Kept: the code is a number, 0 where none is given, as `ran` and `schedule` have it.
 #[derive(Clone, Copy)]
 pub struct Ran {
     pub done: usize,
@@ -166,34 +164,18 @@ pub struct Ran {
 }
 
 // Code 1: M and R in range, and the three lengths M.
+#[tactic(auto, unfolding(base::specs::Choice::every, crate::specs::Check::size_ok))]
 pub fn size_ok(m: usize, r: usize, lefts: usize, rights: usize, colours: usize) -> bool
     ensures { result ≡ size_ok m r (lefts ∷ rights ∷ []) colours }
 {
-    if m < 3 {
-        return false;
-    }
-    if MOST_NODES < m {
-        return false;
-    }
-    if r < 1 {
-        return false;
-    }
-    if MOST_SLOTS < r {
-        return false;
-    }
-    if m < r + 2 {
-        return false;
-    }
-    if lefts != m {
-        return false;
-    }
-    if rights != m {
-        return false;
-    }
-    if colours != m {
-        return false;
-    }
-    true
+    3 <= m
+        && m <= MOST_NODES
+        && 1 <= r
+        && r <= MOST_SLOTS
+        && r + 2 <= m
+        && lefts == m
+        && rights == m
+        && colours == m
 }
 
 // Which phase it is.
@@ -217,14 +199,14 @@ pub fn position(phase: Phase) -> u16
     ensures { result ≡ position phase }
 {
     match phase {
-        Phase::Roots(i) => i,
-        Phase::Scan(i, _) => i,
-        Phase::Left(i) => i,
-        Phase::ShadeLeft(i, _) => i,
-        Phase::Right(i) => i,
-        Phase::ShadeRight(i, _) => i,
-        Phase::Black(i) => i,
-        Phase::Append(i) => i,
+        Phase::Roots(i)
+        | Phase::Scan(i, _)
+        | Phase::Left(i)
+        | Phase::ShadeLeft(i, _)
+        | Phase::Right(i)
+        | Phase::ShadeRight(i, _)
+        | Phase::Black(i)
+        | Phase::Append(i) => i,
     }
 }
 
@@ -233,14 +215,9 @@ pub fn second(phase: Phase) -> u16
     ensures { result ≡ second phase }
 {
     match phase {
-        Phase::Roots(_) => 0,
         Phase::Scan(_, k) => k,
-        Phase::Left(_) => 0,
-        Phase::ShadeLeft(_, n) => n,
-        Phase::Right(_) => 0,
-        Phase::ShadeRight(_, n) => n,
-        Phase::Black(_) => 0,
-        Phase::Append(_) => 0,
+        Phase::ShadeLeft(_, n) | Phase::ShadeRight(_, n) => n,
+        _ => 0,
     }
 }
 
@@ -248,121 +225,85 @@ pub fn second(phase: Phase) -> u16
 pub fn has_second(tag: u32) -> bool
     ensures { result ≡ has_second tag }
 {
-    if tag == SCAN_TAG {
-        return true;
-    }
-    if tag == SHADE_LEFT_TAG {
-        return true;
-    }
-    tag == SHADE_RIGHT_TAG
+    tag == SCAN_TAG || tag == SHADE_LEFT_TAG || tag == SHADE_RIGHT_TAG
 }
 
 // The phase of three numbers.
+#[tactic(auto, unfolding(base::specs::Choice::pick, crate::specs::Phases::phase_of))]
 pub fn phase_of(tag: u32, i: u16, k: u16) -> Phase
     ensures { result ≡ phase_of tag i k }
 {
-    if tag == ROOTS_TAG {
-        return Phase::Roots(i);
+    match tag {
+        ROOTS_TAG => Phase::Roots(i),
+        SCAN_TAG => Phase::Scan(i, k),
+        LEFT_TAG => Phase::Left(i),
+        RIGHT_TAG => Phase::Right(i),
+        BLACK_TAG => Phase::Black(i),
+        APPEND_TAG => Phase::Append(i),
+        SHADE_LEFT_TAG => Phase::ShadeLeft(i, k),
+        _ => Phase::ShadeRight(i, k),
     }
-    if tag == SCAN_TAG {
-        return Phase::Scan(i, k);
-    }
-    if tag == LEFT_TAG {
-        return Phase::Left(i);
-    }
-    if tag == RIGHT_TAG {
-        return Phase::Right(i);
-    }
-    if tag == BLACK_TAG {
-        return Phase::Black(i);
-    }
-    if tag == APPEND_TAG {
-        return Phase::Append(i);
-    }
-    if tag == SHADE_LEFT_TAG {
-        return Phase::ShadeLeft(i, k);
-    }
-    Phase::ShadeRight(i, k)
+}
+
+// Whether n is a node, and not FREE.
+#[tactic(auto, unfolding(base::specs::Choice::every))]
+pub fn node_ok(m: u32, n: u32) -> bool
+    ensures { result ≡ every (not (eqb n FREE) ∷ ltb n m ∷ []) }
+{
+    n != 1 && n < m
 }
 
 // Whether a node i and a number read from it are good.
-fn read_ok(m: u16, i: u16, n: u16) -> bool
+#[tactic(auto, unfolding(base::specs::Choice::every))]
+fn read_ok(m: u32, i: u32, n: u32) -> bool
     ensures { result ≡ every (ltb i m ∷ not (eqb n FREE) ∷ ltb n m ∷ []) }
 {
-    if m <= i {
-        return false;
-    }
-    if n == 1 {
-        return false;
-    }
-    n < m
+    i < m && node_ok(m, n)
 }
 
-// An arm for each phase and not its numbers: this is done at every step.
+// By the phase and not its numbers: this is done at every step.
+#[tactic(auto, unfolding(base::specs::Choice::every, crate::specs::Check::phase_ok, crate::specs::Check::position_ok, crate::specs::Check::second_ok, base::specs::Choice::pick))]
 fn phase_ok(m: u16, r: u16, p: Phase) -> bool
     requires { r ≤ most_slots }
     ensures { result ≡ phase_ok m r p }
 {
     match p {
         Phase::Roots(i) => i <= r + 1,
-        Phase::Scan(i, k) => {
-            if m <= i {
-                return false;
-            }
-            if k < 1 {
-                return false;
-            }
-            k <= m
+        Phase::Scan(i, k) => i < m && 1 <= k && k <= m,
+        Phase::ShadeLeft(i, n) | Phase::ShadeRight(i, n) => {
+            read_ok(u32::from(m), u32::from(i), u32::from(n))
         }
-        Phase::Left(i) => i < m,
-        Phase::ShadeLeft(i, n) => read_ok(m, i, n),
-        Phase::Right(i) => i < m,
-        Phase::ShadeRight(i, n) => read_ok(m, i, n),
-        Phase::Black(i) => i < m,
-        Phase::Append(i) => i < m,
+        Phase::Left(i) | Phase::Right(i) | Phase::Black(i) | Phase::Append(i) => i < m,
     }
 }
 
-fn owed_ok(m: u16, owed: Owed) -> bool
+#[tactic(auto, unfolding(base::specs::Choice::every, crate::specs::Check::owed_ok))]
+fn owed_ok(m: u32, owed: Option<u16>) -> bool
     ensures { result ≡ owed_ok m owed }
 {
     match owed {
-        Owed::Nothing => true,
-        Owed::Node(n) => {
-            if n == 1 {
-                return false;
-            }
-            n < m
-        }
+        None => true,
+        Some(n) => node_ok(m, u32::from(n)),
     }
 }
 
-fn last_ok(m: u16, r: u16, n: u16) -> bool
+// Whether n may be the last node of the free list, or FREE where the list is empty.
+#[tactic(auto, unfolding(base::specs::Choice::every, crate::specs::Check::last_ok))]
+pub fn last_ok(m: u32, r: u32, n: u32) -> bool
     requires { r ≤ most_slots }
     ensures { result ≡ last_ok m r n }
 {
-    if n == 1 {
-        return true;
-    }
-    if n < r + 2 {
-        return false;
-    }
-    n < m
+    n == 1 || r + 2 <= n && n < m
 }
 
 // Whether so many may be free: none exactly while last is FREE.
-fn free_ok(m: u16, r: u16, last: u16, n: u16) -> bool
+#[tactic(auto, unfolding(base::specs::Choice::every, base::specs::Choice::pick, crate::specs::Check::free_ok))]
+pub fn free_ok(m: u32, r: u32, last: u32, n: u32) -> bool
     requires r_le_most_slots { r ≤ most_slots }
     requires r_bound { r + 2 ≤ m }
     ensures { result ≡ free_ok m r last n }
 {
-    if m - (r + 2) < n {
-        return false;
-    }
-    if last == 1 {
-        return n == 0;
-    }
-    n != 0
+    n <= m - (r + 2) && (last == 1) == (n == 0)
 }
 
 // B, the most steps that a cycle may take.
@@ -371,94 +312,70 @@ pub fn bound(m: u16, r: u16) -> u32
     requires r_le_most_slots { r ≤ most_slots }
     ensures { result ≡ bound 2 m r }
 {
-    let n = m as u32;
-    n * n + 7 * n + r as u32 + 2
+    let n = u32::from(m);
+    n * n + 7 * n + u32::from(r) + 2
 }
 
 // What the cycle counts, b being B.
+#[tactic(auto, unfolding(base::specs::Choice::every, crate::specs::Check::cycle_ok))]
 fn cycle_ok(x: Record, b: u32) -> bool
     ensures { result ≡ cycle_ok x b }
 {
-    if x.m < x.blackened {
-        return false;
-    }
-    x.steps < b
+    x.blackened <= x.m && x.steps < b
 }
 
 // Whether the counts that a step can bring past their limits are within them, b being B.
+#[tactic(auto, unfolding(base::specs::Choice::every, crate::specs::Check::in_limits))]
 pub fn in_limits(x: Record, b: u32) -> bool
     requires r_le_most_slots { x.r ≤ most_slots }
     requires r_bound { x.r + 2 ≤ x.m }
     ensures { result ≡ in_limits x b }
 {
-    if !free_ok(x.m, x.r, x.last, x.free) {
-        return false;
-    }
-    cycle_ok(x, b)
+    x.free_ok() && cycle_ok(x, b)
 }
 
 // What earlier cycles told.
+#[tactic(auto, unfolding(base::specs::Choice::every, crate::specs::Check::told_ok))]
 fn told_ok(x: Record, b: u32) -> bool
     ensures { result ≡ told_ok x b }
 {
-    if x.m < x.lastblackened {
-        return false;
-    }
-    x.took <= b
+    x.lastblackened <= x.m && x.took <= b
 }
 
+#[tactic(auto, unfolding(base::specs::Choice::every, crate::specs::Check::counts_ok))]
 fn counts_ok(x: Record, b: u32) -> bool
     ensures { result ≡ counts_ok x b }
 {
-    if !cycle_ok(x, b) {
-        return false;
-    }
-    told_ok(x, b)
+    cycle_ok(x, b) && told_ok(x, b)
 }
 
+#[tactic(auto, unfolding(base::specs::Choice::every, crate::specs::Check::record_ok))]
 fn record_ok(x: Record) -> bool
     requires m_le_most_nodes { x.m ≤ most_nodes }
     requires r_le_most_slots { x.r ≤ most_slots }
     requires r_bound { x.r + 2 ≤ x.m }
     ensures { result ≡ record_ok 2 x }
 {
-    let phase = x.phase;
-    if !phase_ok(x.m, x.r, phase) {
-        return false;
-    }
-    let owed = x.owed;
-    if !owed_ok(x.m, owed) {
-        return false;
-    }
-    if !last_ok(x.m, x.r, x.last) {
-        return false;
-    }
-    if !free_ok(x.m, x.r, x.last, x.free) {
-        return false;
-    }
-    counts_ok(x, bound(x.m, x.r))
+    phase_ok(x.m, x.r, x.phase)
+        && owed_ok(u32::from(x.m), x.owed)
+        && last_ok(u32::from(x.m), u32::from(x.r), u32::from(x.last))
+        && x.free_ok()
+        && counts_ok(x, bound(x.m, x.r))
 }
 
 // Codes 1 and 2, for slices of these lengths; 0 where neither is given.
+// Kept: a number and no Result, since the clause is that it is `check_of`'s; none of its callers
+// answers a Result, so `?` has no place there.
 pub fn check(lefts: usize, rights: usize, colours: usize, x: Record) -> u8
     ensures { result ≡ check_of (lefts ∷ rights ∷ []) colours x }
 {
-    if !size_ok(x.m as usize, x.r as usize, lefts, rights, colours) {
+    if !size_ok(usize::from(x.m), usize::from(x.r), lefts, rights, colours) {
         return 1;
     }
     if !record_ok(x) {
         return 2;
     }
     0
-}
-
-fn one_more(n: u32) -> u32
-    ensures { result ≡ one_more n }
-{
-    if n < MOST_CYCLES {
-        return n + 1;
-    }
-    n
 }
 
 // [Answers 4] What a call that is refused hands back: the record stays.
@@ -473,12 +390,16 @@ pub fn refusal_with(code: u8, node: u16, detail: u8, x: Record) -> Made
 }
 
 // The same where there is no more to tell.
+// Kept: two functions, as the definitions are two words, `refusal_with` and `refusal`; and so are
+// `Answer::refused_with` and `refused`.
 pub fn refusal(code: u8, node: u16, x: Record) -> Made
     ensures { result ≡ refusal code node x }
 {
     refusal_with(code, node, 0, x)
 }
 
+// Kept: bounds of its fields are clauses and no invariant, since a record may hold any numbers
+// until it is judged.
 impl Record {
     // Roots 0, nothing owed, all other counts 0.
     pub fn fresh(m: u16, r: u16, last: u16, free: u16) -> Record
@@ -488,7 +409,7 @@ impl Record {
             m,
             r,
             phase: Phase::Roots(0),
-            owed: Owed::Nothing,
+            owed: None,
             last,
             steps: 0,
             cycles: 0,
@@ -499,51 +420,41 @@ impl Record {
         }
     }
 
-    // The record made anew: a field that is an enum cannot be stored to.
-    fn placed(self, phase: Phase, owed: Owed) -> Record
-        ensures { result ≡ with_owed (with_phase self phase) owed }
+    // Whether its free count fits its last.
+    fn free_ok(self) -> bool
+        requires r_le_most_slots { self.r ≤ most_slots }
+        requires r_bound { self.r + 2 ≤ self.m }
+        ensures { result ≡ free_ok self.m self.r self.last self.free }
     {
-        Record {
-            m: self.m,
-            r: self.r,
-            phase,
-            owed,
-            last: self.last,
-            steps: self.steps,
-            cycles: self.cycles,
-            took: self.took,
-            blackened: self.blackened,
-            lastblackened: self.lastblackened,
-            free: self.free,
-        }
+        free_ok(
+            u32::from(self.m),
+            u32::from(self.r),
+            u32::from(self.last),
+            u32::from(self.free),
+        )
     }
 
-    pub fn with_phase(self, phase: Phase) -> Record
+    pub fn with_phase(mut self, phase: Phase) -> Record
         ensures { result ≡ with_phase self phase }
     {
-        let owed = self.owed;
-        self.placed(phase, owed)
-    }
-
-    fn with_owed(self, owed: Owed) -> Record
-        ensures { result ≡ with_owed self owed }
-    {
-        let phase = self.phase;
-        self.placed(phase, owed)
+        self.phase = phase;
+        self
     }
 
     // The shade of node n is owed.
-    pub fn owing(self, n: u16) -> Record
+    pub fn owing(mut self, n: u16) -> Record
         ensures { result ≡ owing self n }
     {
-        self.with_owed(Owed::Node(n))
+        self.owed = Some(n);
+        self
     }
 
     // The shade is paid: nothing is owed.
-    pub fn paid(self) -> Record
+    pub fn paid(mut self) -> Record
         ensures { result ≡ paid self }
     {
-        self.with_owed(Owed::Nothing)
+        self.owed = None;
+        self
     }
 
     // The free list ends at n.
@@ -558,10 +469,7 @@ impl Record {
     pub fn less_free(mut self) -> Record
         ensures { result ≡ less_free self }
     {
-        if self.free == 0 {
-            return self;
-        }
-        self.free = self.free - 1;
+        self.free = self.free.saturating_sub(1);
         self
     }
 
@@ -570,7 +478,7 @@ impl Record {
         requires { self.free ≤ most_nodes }
         ensures { result ≡ more_free self }
     {
-        self.free = self.free + 1;
+        self.free += 1;
         self
     }
 
@@ -579,7 +487,7 @@ impl Record {
         requires { self.steps < many_steps }
         ensures { result ≡ moved self phase }
     {
-        self.steps = self.steps + 1;
+        self.steps += 1;
         self.with_phase(phase)
     }
 
@@ -611,23 +519,25 @@ impl Record {
         requires i_lt_m { i < self.m }
         ensures { result ≡ rescan self i }
     {
-        self.blackened = self.blackened + 1;
+        self.blackened += 1;
         self.moved(Phase::Scan(self.next(i), self.m))
     }
 
     // The step that completes the cycle.
+    #[tactic(auto, unfolding(base::specs::Choice::pick, crate::specs::Records::one_more, crate::specs::Records::closed))]
     fn closed(mut self) -> Record
         requires { self.steps < many_steps }
         ensures { result ≡ closed self }
     {
         self.took = self.steps + 1;
         self.steps = 0;
-        self.cycles = one_more(self.cycles);
+        self.cycles = self.cycles.saturating_add(1);
         self.blackened = 0;
         self.with_phase(Phase::Roots(0))
     }
 
     // After Append i.
+    #[tactic(auto, unfolding(base::specs::Choice::pick, crate::specs::Records::after_append))]
     pub fn after_append(self, i: u16) -> Record
         requires steps_lt_many_steps { self.steps < many_steps }
         requires i_lt_most_nodes { i < most_nodes }
@@ -661,17 +571,8 @@ impl Answer {
         ensures { result ≡ code_of self }
     {
         match self {
-            Answer::Started(_) => 0,
-            Answer::Named(_) => 0,
-            Answer::Linked(_) => 0,
-            Answer::Taken(_) => 0,
-            Answer::Shaded(_) => 0,
-            Answer::Looked(_) => 0,
-            Answer::Blackened(_) => 0,
-            Answer::Whitened(_) => 0,
-            Answer::Appended(_) => 0,
-            Answer::Counted(_) => 0,
             Answer::Refused(code, _, _) => code,
+            _ => 0,
         }
     }
 
@@ -699,17 +600,8 @@ impl Answer {
         ensures { result ≡ detail_of self }
     {
         match self {
-            Answer::Started(_) => 0,
-            Answer::Named(_) => 0,
-            Answer::Linked(_) => 0,
-            Answer::Taken(_) => 0,
-            Answer::Shaded(_) => 0,
-            Answer::Looked(_) => 0,
-            Answer::Blackened(_) => 0,
-            Answer::Whitened(_) => 0,
-            Answer::Appended(_) => 0,
-            Answer::Counted(_) => 0,
             Answer::Refused(_, _, detail) => detail,
+            _ => 0,
         }
     }
 }

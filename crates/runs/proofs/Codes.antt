@@ -11,10 +11,10 @@ use Rattle.base.proofs.Tests.{eq_yes, or_first, split}
 use Rattle.rules.specs.Places.{place_code}
 use Rattle.rules.specs.Editor.{side_code, owed_code}
 use Rattle.rules.specs.declared.Place.{Place}
-use Rattle.rules.specs.declared.Owed.{Owed}
-use Rattle.rules.specs.declared.Owed.TheVariants.{Nothing, Node}
 use Rattle.theory.specs.Free.{Mem}
 use Rattle.runs.specs.Demand.{never, Allowed}
+use Rattle.rules.specs.Records.{Owed}
+use Rattle.std.specs.Prelude.{Some, None}
 
 abbrev among : ℕ → List ℕ → Bool
 among n [] = false
@@ -55,5 +55,5 @@ allowed_side e side = split Allowed _ _ _ (λ a. allowed refl) (λ a. allowed re
 
 pub allowed_owed : (o : Owed) → Allowed (owed_code o)
 unfolding owed_code
-allowed_owed Nothing = allowed refl
-allowed_owed (Node n) = allowed refl
+allowed_owed None = allowed refl
+allowed_owed (Some n) = allowed refl

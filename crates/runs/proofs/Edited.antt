@@ -20,10 +20,8 @@ use Rattle.rules.specs.Editor.{owed_code}
 use Rattle.rules.specs.Steps.{code_of}
 use Rattle.rules.specs.declared.Record.{Record}
 use Rattle.rules.specs.declared.Place.{Place}
-use Rattle.rules.specs.declared.Walk.{Walk}
-use Rattle.rules.specs.declared.Walk.TheVariants.{At}
-use Rattle.rules.specs.declared.Owed.{Owed}
-use Rattle.rules.specs.declared.Owed.TheVariants.{Nothing, Node}
+use Rattle.rules.specs.Places.{Walk}
+use Rattle.std.specs.Prelude.{Ok, Some, None}
 use Rattle.rules.proofs.Walks.{slot_below}
 use Rattle.theory.specs.Reach as R
 use R.{Reach, Slot}
@@ -37,6 +35,7 @@ use Rattle.runs.proofs.Picks.{if_no}
 use Rattle.runs.proofs.Codes.{allowed, AllAllowed, allowed_first}
 use Rattle.runs.proofs.Ready.{owes, state_in, abs, top, InLimits, Ready, good_edge_lem}
 use Rattle.runs.proofs.Answers.{act, named, counts}
+use Rattle.rules.specs.Records.{Owed}
 
 -- an editor's step leaves the collector's part of the record
 pub record Same (x y : Record) : Type 0 where
@@ -90,14 +89,14 @@ unless_edited {E} {s} {ph} g cs o h k =
 
 pub none_owed : (o : Owed) → 0 ≡ owed_code o → owes o ≡ none
 unfolding owed_code
-none_owed Nothing e = refl
-none_owed (Node n) e = absurd (omega arith)
+none_owed None e = refl
+none_owed (Some n) e = absurd (omega arith)
 
 -- a walk comes to a node that a slot reaches
 pub data Walked (E : ℕ) (s : State) : Walk → Type 0 where
-  at : {n : ℕ} → Reach E (Slot (top s)) (edge s) n → Walked E s (At n)
+  at : {n : ℕ} → Reach E (Slot (top s)) (edge s) n → Walked E s (Ok n)
 
-pub walked_at : {E : ℕ} {s : State} {n : ℕ} → Walked E s (At n) → Reach E (Slot (top s)) (edge s) n
+pub walked_at : {E : ℕ} {s : State} {n : ℕ} → Walked E s (Ok n) → Reach E (Slot (top s)) (edge s) n
 walked_at (at a) = a
 
 -- a place that passes its tests turns to sides that the table has

@@ -11,7 +11,6 @@ use Rattle.rules.specs.Table.{State, sides, Outcome, edge, with_edge}
 use Rattle.rules.specs.Editor.{look, depart, link_to, link}
 use Rattle.rules.specs.Places.{place_code}
 use Rattle.rules.specs.declared.Place.{Place}
-use Rattle.rules.specs.declared.Owed.TheVariants.{Node}
 use Rattle.rules.proofs.Walks.{side_below}
 use Rattle.theory.specs.Reach.{Reach, Slot}
 use Rattle.theory.proofs.Reaches.{Named, named_reached, slot_named}
@@ -23,6 +22,7 @@ use Rattle.runs.proofs.Tables.{EdgeMoved, edge_moved}
 use Rattle.runs.proofs.Ready.{owes, top, Ready, sizes}
 use Rattle.runs.proofs.Edited.{some_same, Edited, same, refused, unless_edited, none_owed}
 use Rattle.runs.proofs.Edited.{walked, arrived}
+use Rattle.std.specs.Prelude.{Some}
 
 module _ {E : ℕ} {s : State} {ph : S.Phase} (g : Ready E s ph) where
   pub look_edited : (p : Place) → Edited E s ph (look p s)
@@ -77,7 +77,7 @@ module _ {E : ℕ} {s : State} {ph : S.Phase} (g : Ready E s ph) where
         blackens = refl;
         fits = rw em.colour (omega (arith, g.fits));
         lengths = em.lengths;
-        same = same s.rec (Node t) s.rec.last s.rec.free;
+        same = same s.rec (Some t) s.rec.last s.rec.free;
       })
 
   pub link_edited : (p : Place) (side : ℕ) (q : Place) → Edited E s ph (link p side q s)

@@ -20,8 +20,6 @@ use Rattle.rules.specs.Check.{record_ok, check_of, check}
 use Rattle.rules.specs.Facts.{Tells}
 use Rattle.rules.proofs.Checked.{tells_ok}
 use Rattle.rules.specs.declared.Phase.{Phase}
-use Rattle.rules.specs.declared.Owed.{Owed}
-use Rattle.rules.specs.declared.Owed.TheVariants.{Nothing, Node}
 use Rattle.theory.proofs.Steps as S
 use Rattle.theory.proofs.Invariant.{Sizes, Inv, Hues}
 use Rattle.theory.proofs.FreeCount.{FreeCount, count_room, count_none}
@@ -29,11 +27,13 @@ use Rattle.theory.proofs.Facts.{owed_lies, last_lies}
 use Rattle.runs.specs.Runs.{kind}
 use Rattle.runs.specs.Start.{Served}
 use Rattle.runs.proofs.Tables.{Rows}
+use Rattle.rules.specs.Records.{Owed}
+use Rattle.std.specs.Prelude.{Some, None}
 
 -- the node owed, if any
 abbrev pub owes : Owed → Option ℕ
-owes Nothing = none
-owes (Node n) = some n
+owes None = none
+owes (Some n) = some n
 
 -- the theory's state, in a phase of the theory
 abbrev pub state_in : State → S.Phase → S.State
@@ -85,8 +85,8 @@ size_ok_lem {E} {s} f =
 pub owed_ok_lem : {m : ℕ} (o : Owed) → ((x : ℕ) → owes o ≡ some x → (x ≢ 1) × (x < m)) → true
     ≡ owed_ok m o
 unfolding owed_ok
-owed_ok_lem Nothing h = refl
-owed_ok_lem (Node x) h = every_skip _ _ _ (not_is _ (eq_no _ _ (h x refl).0))
+owed_ok_lem None h = refl
+owed_ok_lem (Some x) h = every_skip _ _ _ (not_is _ (eq_no _ _ (h x refl).0))
     (every_last _ _ (lt_yes _ _ (h x refl).1))
 
 pub last_ok_lem : {m r : ℕ} (l : ℕ) → (l ≡ 1) ⊎ ((suc (suc r) ≤ l) × (l < m)) → true ≡ last_ok m r l

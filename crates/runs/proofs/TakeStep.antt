@@ -16,8 +16,6 @@ use Rattle.rules.specs.Table.{shade}
 use Rattle.rules.specs.Records.{with_last, less_free}
 use Rattle.rules.specs.Editor.{pay, shade_owed, bad_free, relink, take_next, take_first, take}
 use Rattle.rules.specs.declared.Place.{Place}
-use Rattle.rules.specs.declared.Owed.{Owed}
-use Rattle.rules.specs.declared.Owed.TheVariants.{Nothing, Node}
 use Rattle.rules.specs.declared.Answer.TheVariants.{Taken}
 use Rattle.rules.proofs.Walks.{side_below}
 use Rattle.theory.proofs.Update.{Shaded}
@@ -32,6 +30,8 @@ use Rattle.runs.proofs.Tables.{rows_kept, shade_is, length_shade, EdgeMoved, edg
 use Rattle.runs.proofs.Ready.{owes, top, Ready, sizes, good_colour}
 use Rattle.runs.proofs.Edited.{Edited, same, refused, unless_edited, none_owed}
 use Rattle.runs.proofs.LinkStep.{moves, departed}
+use Rattle.rules.specs.Records.{Owed}
+use Rattle.std.specs.Prelude.{Some, None}
 
 -- an edge of the free chain that is good
 good_free : (m r e : ℕ) → (e ≡ 0) ⊎ ((suc (suc r) ≤ e) × (e < m)) → 0 < m → false ≡ bad_free m r e
@@ -45,8 +45,8 @@ good_free m r e (inr q) h =
 module _ {E : ℕ} {s : State} {ph : S.Phase} (g : Ready E s ph) where
   paid : (o : Owed) → owes s.rec.owed ≡ owes o → Edited E s ph (pay s o)
   unfolding pay
-  paid Nothing q = refused g.fits 6 0 (allowed refl)
-  paid (Node t) q = if_no (Edited E s ph) _ _ _ (good_colour s g.inv.hues t) record {
+  paid None q = refused g.fits 6 0 (allowed refl)
+  paid (Some t) q = if_no (Edited E s ph) _ _ _ (good_colour s g.inv.hues t) record {
     deed = pays t;
     made =
         rw q
@@ -60,7 +60,7 @@ module _ {E : ℕ} {s : State} {ph : S.Phase} (g : Ready E s ph) where
     blackens = refl;
     fits = omega (arith, g.fits, length_shade s.colour t);
     lengths = refl;
-    same = same s.rec Nothing s.rec.last s.rec.free;
+    same = same s.rec None s.rec.last s.rec.free;
   }
 
   pub shade_edited : Edited E s ph (shade_owed s)

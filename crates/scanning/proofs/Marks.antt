@@ -4,18 +4,20 @@ use mathlib.Core.Path.{◌≡◌, refl}
 use mathlib.Core.List.{List}
 use lib.ListN.{length, get_or, set, length-set}
 use native.Mathlib.Omega.{arith}
+use borrow.Author.Tests.{eqb-true}
 use Rattle.base.specs.Choice.{pick}
+use Rattle.base.proofs.Tests.{split}
 use Rattle.rules.specs.declared.Record.{Record}
 use Rattle.rules.specs.declared.Phase.TheVariants.{Scan}
 use Rattle.rules.specs.Table.{State, state, shade_in}
 use Rattle.rules.specs.Facts.{many_steps}
 use Rattle.rules.specs.Changes.{differing}
-use Rattle.rules.proofs.Changes.{two_shaded}
+use Rattle.rules.proofs.Changes.{one_grayed, shaded_most, two_shaded}
 use Rattle.rules.proofs.Checked.{good, inside}
 use Rattle.skim.specs.Stops.{stop, stops, NoStop}
 use Rattle.skim.proofs.Counts.{changed, counts}
 use Rattle.ahead.specs.Leads.{Passes, Room, Leads}
-use Rattle.ahead.proofs.Strides.{Sized, sized, stay, on}
+use Rattle.ahead.proofs.Strides.{Sized, sized, on}
 use Rattle.ahead.proofs.Looks.{looks}
 use Rattle.ahead.proofs.Visits as strides
 use Rattle.ahead.proofs.Visits.{gray_kept}
@@ -46,16 +48,6 @@ at l k c x s p =
       steps = g.steps;
       sizes = sized l k c (standing x s) p;
     }
-
--- no step
-pub stays : (l k c : List ℕ) (x : Record) (cap : ℕ) (s : ScanAt) → Valid l k c x cap s
-    → ScanLeads l k c x cap s c s
-stays l k c x cap s p = record {
-  low = omega arith;
-  counted = omega arith;
-  leads = stay _ _ _ (omega arith) (omega arith) p.passes;
-  valid = p;
-}
 
 pub goes_on : (l k c : List ℕ) (x : Record) (cap : ℕ) (s : ScanAt) (c' : List ℕ) (t : ScanAt)
     (c'' : List ℕ) (r : ScanAt) → ScanLeads l k c x cap s c' t
@@ -112,6 +104,25 @@ pub grayed_more : (c : List ℕ) (n : ℕ) → n < length c
     → stops (set c n 1) 0 (length (set c n 1)) ≤ stops c 0 (length c) + 1
 unfolding stop pick
 grayed_more c n h = let w = changed c n 1 (length c) h (omega arith) in rw length-set (omega arith)
+
+-- shading a node adds as many stops, at most, as it changes colours
+pub shaded_more : (c : List ℕ) (n : ℕ) → n < length c
+    → stops (shade_in c n) 0 (length (shade_in c n)) ≤ stops c 0 (length c)
+    + differing c (shade_in c n)
+unfolding shade_in
+shaded_more c n h =
+    split (λ (d : List ℕ). stops d 0 (length d) ≤ stops c 0 (length c) + differing c d)
+    _ _ _
+    (λ q.
+    let e = eqb-true _ _ q in
+    let a = one_grayed c n h e in
+    let b = grayed_more c n h in
+    omega arith)
+    (λ q. omega arith)
+
+pub few_shaded : (c d : List ℕ) (n v : ℕ) → n < length c → d ≡ shade_in c n → v ≡ differing c d
+    → (v ≤ 1) × (stops d 0 (length d) ≤ stops c 0 (length c) + v)
+few_shaded c d n v h p w = rw (w, p) (shaded_most c n, shaded_more c n h)
 
 -- two nodes are shaded one after the other
 pub both_counted : (c c₁ c₂ : List ℕ) (e f a b : ℕ) → e < length c → f < length c

@@ -2,6 +2,7 @@
 #![tactic(auto)]
 
 ghost use Rattle.std.specs.Prelude.{◌≡◌, true, ℕ, ◌+◌, ◌-◌, ◌<◌, ◌≤◌, ◌%◌, length, get_or, set};
+ghost use Rattle.std.specs.Option.{MatchOption};
 ghost use Rattle.rules.specs.Table.{most_nodes, state, shade_in};
 ghost use Rattle.rules.specs.Facts.{many_steps};
 ghost use Rattle.rules.specs.declared.Phase.TheVariants.{Scan};
@@ -17,6 +18,7 @@ use rules::{Phase, Record};
 
 // Where the marking stands: Scan i, k; nodes blackened; steps made here; how many colours stop a
 // look, at most; the node that was made gray last; and how many colours the steps changed.
+// Kept: `grayed` is a node in any case, 0 at first: its colour is tested wherever it is used.
 #[derive(Clone, Copy)]
 struct ScanAt {
     i: usize,
@@ -28,6 +30,7 @@ struct ScanAt {
     changed: usize,
 }
 
+// Kept: `as`: a `usize` has no `From` into a narrower type, and each value is proved to fit.
 fn standing(mut x: Record, s: ScanAt) -> Record
     requires i_lt_most_nodes { s.i < most_nodes }
     requires k_le_most_nodes { s.k ≤ most_nodes }
@@ -35,7 +38,7 @@ fn standing(mut x: Record, s: ScanAt) -> Record
     requires d_bound { x.steps + s.d < many_steps }
     ensures { result ≡ standing x s }
 {
-    x.steps = x.steps + s.d as u32;
+    x.steps += s.d as u32;
     x.blackened = s.blackened as u16;
     x.with_phase(Phase::Scan(s.i as u16, s.k as u16))
 }
@@ -45,10 +48,7 @@ fn around(n: usize, m: usize) -> usize
     requires { n < m + m }
     ensures { result ≡ n % m }
 {
-    if n < m {
-        return n;
-    }
-    n - m
+    if n < m { n } else { n - m }
 }
 
 // How far it is from i to t, round the end of the table.
@@ -58,22 +58,38 @@ fn gap(i: usize, t: usize, m: usize) -> usize
     requires m_le_most_nodes { m ≤ most_nodes }
     ensures { (i ≤ t → i + result ≡ t) × (t < i → i + result ≡ t + m) }
 {
-    if i <= t {
-        return t - i;
-    }
-    t + m - i
+    if i <= t { t - i } else { t + m - i }
+}
+
+// How far it is from i on to t, a whole round if they are the same.
+// Kept: beside `gap`, since for i = t that one answers 0 and this one m.
+fn beyond(i: usize, t: usize, m: usize) -> usize
+    requires i_lt_m { i < m }
+    requires t_lt_m { t < m }
+    requires m_le_most_nodes { m ≤ most_nodes }
+    ensures { (result ≤ m) × ((i < t → i + result ≡ t) × (t ≤ i → i + result ≡ t + m)) }
+{
+    if i < t { t - i } else { t + m - i }
+}
+
+// The node before i, round the end of the table.
+fn before(i: usize, m: usize) -> usize
+    requires { i < m }
+    ensures { (i ≡ 0 → result + 1 ≡ m) × (0 < i → result + 1 ≡ i) }
+{
+    i.checked_sub(1).unwrap_or(m - 1)
 }
 
 // How many looks from i on, at most near, find nothing: none stops where no colour does, and only
 // at the node made gray last where that is the only one.
-fn idle_looks(colour: &[u8], m: usize, s: ScanAt, near: usize) -> usize
-    requires colour_len { length colour.now ≡ m }
-    requires m_le_most_nodes { m ≤ most_nodes }
-    requires m_bound { stops colour.now 0 m ≤ s.stops }
-    requires i_lt_m { s.i < m }
-    requires grayed_lt_m { s.grayed < m }
-    ensures { (result ≤ near) × NoStop colour.now m s.i result }
+fn idle_looks(colour: &[u8], s: ScanAt, near: usize) -> usize
+    requires size { length colour.now ≤ most_nodes }
+    requires few { stops colour.now 0 (length colour.now) ≤ s.stops }
+    requires i_in_bounds { s.i < length colour.now }
+    requires grayed_in_bounds { s.grayed < length colour.now }
+    ensures { (result ≤ near) × NoStop colour.now (length colour.now) s.i result }
 {
+    let m = colour.len();
     let i = s.i;
     let t = s.grayed;
     if skim::stop(colour[i]) != 0 {
@@ -82,71 +98,32 @@ fn idle_looks(colour: &[u8], m: usize, s: ScanAt, near: usize) -> usize
     if s.stops == 0 {
         return near;
     }
-    if s.stops == 1 {
-        if colour[t] == 1 {
-            return ahead::least(near, gap(i, t, m));
-        }
+    if s.stops == 1 && colour[t] == table::GRAY {
+        return near.min(gap(i, t, m));
     }
-    skim::until_stop(colour, i, ahead::least(near, m - i))
-}
-
-// The looks that find nothing, all at once.
-fn look_on(left: &[u16], right: &[u16], colour: &[u8], x: Record, cap: usize, s: ScanAt) -> ScanAt
-    requires valid { Valid left.now right.now colour.now x cap s }
-    requires room { Room x cap }
-    ensures { ScanLeads left.now right.now colour.now x cap s colour.now result }
-{
-    let m = x.m as usize;
-    let e = idle_looks(colour, m, s, ahead::least(cap - s.d, s.k - 1));
-    ScanAt {
-        i: around(s.i + e, m),
-        k: s.k - e,
-        blackened: s.blackened,
-        d: s.d + e,
-        stops: s.stops,
-        grayed: s.grayed,
-        changed: s.changed,
-    }
+    skim::until_stop(colour, i, near.min(m - i))
 }
 
 // Whether e is a good edge to a node with a good colour.
-fn can_shade(m: u16, colour: &[u8], e: u16) -> bool
-    requires { m ≤ length colour.now }
-    ensures { result ≡ true → CanShade m colour.now e }
+fn can_shade(colour: &[u8], e: u16) -> bool
+    ensures { result ≡ true → CanShade (length colour.now) colour.now e }
 {
-    if m <= e {
-        return false;
-    }
-    if e == 1 {
-        return false;
-    }
-    let at = e as usize;
-    colour[at] <= 2
+    let at = usize::from(e);
+    at < colour.len() && at != 1 && colour[at] <= table::BLACK
 }
 
-// Whether node i is gray and its six steps can be made.
-fn can_visit(left: &[u16], right: &[u16], colour: &[u8], x: Record, cap: usize, s: ScanAt) -> bool
-    requires valid { Valid left.now right.now colour.now x cap s }
-    requires room { Room x cap }
-    ensures { result ≡ true → CanVisit left.now right.now colour.now x cap s }
+// Whether the visit of a node with the edges e and f makes the node at e gray and no other.
+fn can_follow(colour: &[u8], e: u16, f: u16) -> bool
+    ensures { result ≡ true → CanFollow (length colour.now) colour.now e f }
 {
-    if cap - s.d < 6 {
-        return false;
-    }
-    if x.m as usize <= s.blackened {
-        return false;
-    }
-    let i = s.i;
-    if colour[i] != 1 {
-        return false;
-    }
-    if !can_shade(x.m, colour, left[i]) {
-        return false;
-    }
-    can_shade(x.m, colour, right[i])
+    can_shade(colour, e)
+        && can_shade(colour, f)
+        && colour[usize::from(e)] == table::WHITE
+        && colour[usize::from(f)] != table::WHITE
 }
 
 // Shades a node; 1 where that makes it gray.
+// Kept: a number, since `spread` sums it, and `value` is that it is how many colours differ.
 fn shade_and_count(colour: &mut [u8], n: u16) -> usize
     requires { n < length colour.old }
     ensures upper_bound { (result ≤ 1) × ((colour.new
@@ -155,32 +132,36 @@ fn shade_and_count(colour: &mut [u8], n: u16) -> usize
         result)) }
     ensures value { result ≡ differing colour.old colour.new }
 {
-    let at = n as usize;
-    if colour[at] == 0 {
-        colour[at] = 1;
-        return 1;
-    }
-    0
+    usize::from(table::shade_node(colour, n))
 }
 
+// Kept: no `paint` of table: its node is of 16 bits, and that one colour changes is known here.
 fn blacken(colour: &mut [u8], i: usize)
     requires { i < length colour.old }
     ensures { colour.new ≡ set colour.old i 2 }
 {
-    colour[i] = 2;
+    colour[i] = table::BLACK;
+}
+
+// Makes node n gray and node i black.
+fn pass_on(colour: &mut [u8], i: usize, n: usize)
+    requires i_in_bounds { i < length colour.old }
+    requires n_in_bounds { n < length colour.old }
+    ensures { colour.new ≡ set (set colour.old n 1) i 2 }
+{
+    colour[n] = table::GRAY;
+    colour[i] = table::BLACK;
 }
 
 // f where it was made gray, else e.
 fn newer(e: u16, f: u16, b: usize) -> usize
     ensures { (m : ℕ) → e < m → f < m → result < m }
 {
-    if b == 1 {
-        return f as usize;
-    }
-    e as usize
+    usize::from(if b == 1 { f } else { e })
 }
 
 // How many nodes were made gray, and one of them.
+// Kept: no Option: the node goes into `ScanAt` in any case, and its colour is tested there.
 #[derive(Clone, Copy)]
 struct Grayed {
     more: usize,
@@ -209,26 +190,6 @@ fn spread(colour: &mut [u8], i: usize, e: u16, f: u16) -> Grayed
     }
 }
 
-// The six steps at a gray node.
-fn visit(left: &[u16], right: &[u16], colour: &mut [u8], x: Record, cap: usize, s: ScanAt) -> ScanAt
-    requires valid { Valid left.now right.now colour.old x cap s }
-    requires room { Room x cap }
-    requires can_visit { CanVisit left.now right.now colour.old x cap s }
-    ensures { ScanLeads left.now right.now colour.old x cap s colour.new result }
-{
-    let i = s.i;
-    let grayed = spread(colour, i, left[i], right[i]);
-    ScanAt {
-        i: around(i + 1, x.m as usize),
-        k: x.m as usize,
-        blackened: s.blackened + 1,
-        d: s.d + 6,
-        stops: s.stops + grayed.more - 1,
-        grayed: grayed.node,
-        changed: s.changed + grayed.more + 1,
-    }
-}
-
 // Where a chain of nodes is followed: the node visited last; the one it made gray, which is the
 // only gray one; steps made; nodes blackened.
 #[derive(Clone, Copy)]
@@ -239,201 +200,168 @@ struct Chain {
     blackened: usize,
 }
 
-// The node before i, round the end of the table.
-fn before(i: usize, m: usize) -> usize
-    requires { i < m }
-    ensures { (i ≡ 0 → result + 1 ≡ m) × (0 < i → result + 1 ≡ i) }
-{
-    if i == 0 {
-        return m - 1;
-    }
-    i - 1
-}
-
-// How far it is from i on to t, a whole round if they are the same.
-fn beyond(i: usize, t: usize, m: usize) -> usize
-    requires i_lt_m { i < m }
-    requires t_lt_m { t < m }
-    requires m_le_most_nodes { m ≤ most_nodes }
-    ensures { (result ≤ m) × ((i < t → i + result ≡ t) × (t ≤ i → i + result ≡ t + m)) }
-{
-    if i < t {
-        return t - i;
-    }
-    t + m - i
-}
-
-// Whether a chain can be followed from here: the node made gray last is the only one, and there is
-// room for a round of looks and a visit.
-fn one_gray(colour: &[u8], x: Record, cap: usize, s: ScanAt) -> bool
-    requires grayed_in_bounds { s.grayed < length colour.now }
-    requires m_le_most_nodes { x.m ≤ most_nodes }
-    requires d_le_cap { s.d ≤ cap }
-    ensures { result ≡ true → OneGray colour.now x cap s }
-{
-    if s.stops != 1 {
-        return false;
-    }
-    if s.k != x.m as usize {
-        return false;
-    }
-    if cap - s.d < x.m as usize + 5 {
-        return false;
-    }
-    let t = s.grayed;
-    colour[t] == 1
-}
-
-// Whether the visit of a node with the edges e and f makes the node at e gray and no other.
-fn can_follow(m: u16, colour: &[u8], e: u16, f: u16) -> bool
-    requires { m ≤ length colour.now }
-    ensures { result ≡ true → CanFollow m colour.now e f }
-{
-    if !can_shade(m, colour, e) {
-        return false;
-    }
-    if !can_shade(m, colour, f) {
-        return false;
-    }
-    let a = e as usize;
-    if colour[a] != 0 {
-        return false;
-    }
-    let b = f as usize;
-    if colour[b] == 0 {
-        return false;
-    }
-    true
-}
-
-// Makes node n gray and node i black.
-fn pass_on(colour: &mut [u8], i: usize, n: usize)
-    requires i_in_bounds { i < length colour.old }
-    requires n_in_bounds { n < length colour.old }
-    ensures { colour.new ≡ set (set colour.old n 1) i 2 }
-{
-    colour[n] = 1;
-    colour[i] = 2;
-}
-
-// Follows the left edges for as long as each visit makes one node gray, from which the next is
-// found without a look at the colours between.
-fn follow_left(
-    left: &[u16],
-    right: &[u16],
-    colour: &mut [u8],
+// What a marking goes by: the edges, the record that it began at, and how many steps it may make.
+// Kept: `Valid` is a clause of each method, since it speaks of the colours, which the caller lends.
+#[derive(Clone, Copy)]
+struct Marker<'a> {
+    left: &'a [u16],
+    right: &'a [u16],
     x: Record,
     cap: usize,
-    s: ScanAt,
-    from: Chain,
-) -> Chain
-    requires room { Room x cap }
-    requires one_gray { OneGray colour.old x cap s }
-    requires follows { Follows left.now right.now colour.old x cap s colour.old from }
-    ensures { Follows left.now right.now colour.old x cap s colour.new result }
-{
-    let m = x.m as usize;
-    let limit = cap - (m + 5);
-    let mut q = from;
-    while q.blackened < s.k {
-        let t = q.gray;
-        if limit < q.d {
-            return q;
+    ghost room: { Room x cap },
+}
+
+impl<'a> Marker<'a> {
+    // The looks that find nothing, all at once.
+    fn look_on(self, colour: &[u8], s: ScanAt) -> ScanAt
+        requires { Valid self.left.now self.right.now colour.now self.x self.cap s }
+        ensures { ScanLeads self.entry.left.now self.entry.right.now colour.now
+            self.entry.x self.entry.cap s colour.now result }
+    {
+        let idle = idle_looks(colour, s, (self.cap - s.d).min(s.k - 1));
+        ScanAt {
+            i: around(s.i + idle, colour.len()),
+            k: s.k - idle,
+            d: s.d + idle,
+            ..s
         }
-        if !can_follow(x.m, colour, left[t], right[t]) {
-            return q;
+    }
+
+    // Whether node i is gray and its six steps can be made.
+    fn can_visit(self, colour: &[u8], s: ScanAt) -> bool
+        requires { Valid self.left.now self.right.now colour.now self.x self.cap s }
+        ensures { result ≡ true
+            → CanVisit self.entry.left.now self.entry.right.now colour.now
+            self.entry.x self.entry.cap s }
+    {
+        6 <= self.cap - s.d
+            && s.blackened < colour.len()
+            && colour[s.i] == table::GRAY
+            && can_shade(colour, self.left[s.i])
+            && can_shade(colour, self.right[s.i])
+    }
+
+    // The six steps at a gray node.
+    // Kept: beside `phase_step` of collector, which makes one step and the record anew: a `collect`
+    // takes 28 ns, a step in a call of 1,000 takes 1.2 ns (docs/BENCHMARKS.md, in order, M = 64).
+    fn visit(self, colour: &mut [u8], s: ScanAt) -> ScanAt
+        requires valid { Valid self.left.now self.right.now colour.old self.x self.cap s }
+        requires can_visit { CanVisit self.left.now self.right.now colour.old self.x self.cap s }
+        ensures leads { ScanLeads self.entry.left.now self.entry.right.now colour.old
+            self.entry.x self.entry.cap s colour.new result }
+        ensures six { result.d ≡ s.d + 6 }
+    {
+        let m = colour.len();
+        let grayed = spread(colour, s.i, self.left[s.i], self.right[s.i]);
+        ScanAt {
+            i: around(s.i + 1, m),
+            k: m,
+            blackened: s.blackened + 1,
+            d: s.d + 6,
+            stops: s.stops + grayed.more - 1,
+            grayed: grayed.node,
+            changed: s.changed + grayed.more + 1,
         }
-        let n = left[t] as usize;
-        pass_on(colour, t, n);
-        q = Chain {
-            last: t,
-            gray: n,
-            d: q.d + 5 + beyond(q.last, t, m),
-            blackened: q.blackened + 1,
+    }
+
+    // Whether a chain can be followed from here: the node made gray last is the only one, and there
+    // is room for a round of looks and a visit.
+    fn one_gray(self, colour: &[u8], s: ScanAt) -> bool
+        requires { Valid self.left.now self.right.now colour.now self.x self.cap s }
+        ensures { result ≡ true → OneGray colour.now self.entry.x self.entry.cap s }
+    {
+        let m = colour.len();
+        s.stops == 1 && s.k == m && m + 5 <= self.cap - s.d && colour[s.grayed] == table::GRAY
+    }
+
+    // Follows the left edges for as long as each visit makes one node gray, from which the next is
+    // found without a look at the colours between.
+    // Kept: a `while`: it goes along edges and counts no index.
+    fn follow_left(self, colour: &mut [u8], s: ScanAt, from: Chain) -> Chain
+        requires one_gray { OneGray colour.old self.x self.cap s }
+        requires follows { Follows self.left.now self.right.now colour.old self.x self.cap s
+            colour.old from }
+        ensures { Follows self.entry.left.now self.entry.right.now colour.old
+            self.entry.x self.entry.cap s colour.new result }
+    {
+        let m = colour.len();
+        let limit = self.cap - (m + 5);
+        let mut q = from;
+        while q.blackened < m
+            && q.d <= limit
+            && can_follow(colour, self.left[q.gray], self.right[q.gray])
+        {
+            let n = usize::from(self.left[q.gray]);
+            pass_on(colour, q.gray, n);
+            q = Chain {
+                last: q.gray,
+                gray: n,
+                d: q.d + 5 + beyond(q.last, q.gray, m),
+                blackened: q.blackened + 1,
+            };
+        }
+        q
+    }
+
+    // Follows a chain where the node made gray last is the only one.
+    fn follow(self, colour: &mut [u8], s: ScanAt) -> ScanAt
+        requires { Valid self.left.now self.right.now colour.old self.x self.cap s }
+        ensures { ScanLeads self.entry.left.now self.entry.right.now colour.old
+            self.entry.x self.entry.cap s colour.new result }
+    {
+        if !self.one_gray(colour, s) {
+            return s;
+        }
+        let m = colour.len();
+        let from = Chain {
+            last: before(s.i, m),
+            gray: s.grayed,
+            d: s.d,
+            blackened: s.blackened,
         };
-    }
-    q
-}
-
-// Follows a chain where the node made gray last is the only one.
-fn follow(
-    left: &[u16],
-    right: &[u16],
-    colour: &mut [u8],
-    x: Record,
-    cap: usize,
-    s: ScanAt,
-) -> ScanAt
-    requires valid { Valid left.now right.now colour.old x cap s }
-    requires room { Room x cap }
-    ensures { ScanLeads left.now right.now colour.old x cap s colour.new result }
-{
-    let m = x.m as usize;
-    if !one_gray(colour, x, cap, s) {
-        return s;
-    }
-    let from = Chain {
-        last: before(s.i, m),
-        gray: s.grayed,
-        d: s.d,
-        blackened: s.blackened,
-    };
-    let q = follow_left(left, right, colour, x, cap, s, from);
-    ScanAt {
-        i: around(q.last + 1, m),
-        k: m,
-        blackened: q.blackened,
-        d: q.d,
-        stops: 1,
-        grayed: q.gray,
-        changed: s.changed + 2 * (q.blackened - s.blackened),
-    }
-}
-
-// The looks that find nothing, and then the visit of a gray node where one is there, and of those
-// behind it on a chain.
-fn look_and_visit(
-    left: &[u16],
-    right: &[u16],
-    colour: &mut [u8],
-    x: Record,
-    cap: usize,
-    s: ScanAt,
-) -> ScanAt
-    requires valid { Valid left.now right.now colour.old x cap s }
-    requires room { Room x cap }
-    ensures { ScanLeads left.now right.now colour.old x cap s colour.new result }
-{
-    let h = look_on(left, right, colour, x, cap, s);
-    if !can_visit(left, right, colour, x, cap, h) {
-        return h;
-    }
-    let v = visit(left, right, colour, x, cap, h);
-    follow(left, right, colour, x, cap, v)
-}
-
-// Looks and visits for as long as they lead on.
-fn marking(
-    left: &[u16],
-    right: &[u16],
-    colour: &mut [u8],
-    x: Record,
-    cap: usize,
-    from: ScanAt,
-) -> ScanAt
-    requires valid { Valid left.now right.now colour.old x cap from }
-    requires room { Room x cap }
-    ensures { ScanLeads left.now right.now colour.old x cap from colour.new result }
-{
-    let mut s = from;
-    while s.d < cap {
-        let t = look_and_visit(left, right, colour, x, cap, s);
-        if t.d == s.d {
-            return t;
+        let q = self.follow_left(colour, s, from);
+        ScanAt {
+            i: around(q.last + 1, m),
+            k: m,
+            blackened: q.blackened,
+            d: q.d,
+            stops: 1,
+            grayed: q.gray,
+            changed: s.changed + 2 * (q.blackened - s.blackened),
         }
-        s = t;
     }
-    s
+
+    // The looks that find nothing, and then the visit of a gray node where one is there, and of
+    // those behind it on a chain; `None` where no step is made.
+    fn look_and_visit(self, colour: &mut [u8], s: ScanAt) -> Option<ScanAt>
+        requires { Valid self.left.now self.right.now colour.old self.x self.cap s }
+        ensures { MatchOption result (colour.new ≡ colour.old) (λ t. (s.d < t.d)
+            × ScanLeads self.entry.left.now self.entry.right.now colour.old
+            self.entry.x self.entry.cap s colour.new t) }
+    {
+        if s.d == self.cap {
+            return None;
+        }
+        let h = self.look_on(colour, s);
+        if self.can_visit(colour, h) {
+            let v = self.visit(colour, h);
+            return Some(self.follow(colour, v));
+        }
+        if s.d < h.d { Some(h) } else { None }
+    }
+
+    // Looks and visits for as long as they lead on.
+    fn marking(self, colour: &mut [u8], from: ScanAt) -> ScanAt
+        requires { Valid self.left.now self.right.now colour.old self.x self.cap from }
+        ensures { ScanLeads self.entry.left.now self.entry.right.now colour.old
+            self.entry.x self.entry.cap from colour.new result }
+    {
+        let mut s = from;
+        while let Some(t) = self.look_and_visit(colour, s) {
+            s = t;
+        }
+        s
+    }
 }
 
 // How many colours stop a look: counted where many steps are to be made, else the most that can be.
@@ -442,12 +370,15 @@ fn most_stops(colour: &[u8], cap: usize) -> usize
         × (result ≤ length colour.now) }
 {
     if cap < colour.len() {
-        return colour.len();
+        colour.len()
+    } else {
+        skim::all_stops(colour)
     }
-    skim::all_stops(colour)
 }
 
 // Scan i, k: at most cap steps, none of them the last look.
+// Kept: one by one, as batch hands them on; `Marker` is made here, since its room is of this cap. i
+// and k stand beside the record: `stride` of batch has just matched the phase.
 pub fn scans(
     left: &[u16],
     right: &[u16],
@@ -465,15 +396,21 @@ pub fn scans(
         (state left.now right.now colour.new result.rec) }
 {
     let from = ScanAt {
-        i: i as usize,
-        k: k as usize,
-        blackened: x.blackened as usize,
+        i: usize::from(i),
+        k: usize::from(k),
+        blackened: usize::from(x.blackened),
         d: 0,
         stops: most_stops(colour, cap),
         grayed: 0,
         changed: 0,
     };
-    let s = marking(left, right, colour, x, cap, from);
+    let marker = Marker {
+        left,
+        right,
+        x,
+        cap,
+    };
+    let s = marker.marking(colour, from);
     Ahead {
         d: s.d,
         changed: s.changed,

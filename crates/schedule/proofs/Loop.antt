@@ -1,18 +1,15 @@
--- The loop of `schedule`: what holds at its test, that a turn keeps it and comes nearer to the end,
--- and what it says once the loop is left.
+-- The loop of `run`: what holds before each step, that a step which is done keeps it, and what the
+-- run hands back where one is refused or none is left.
 use mathlib.Core.Path.{◌≡◌, refl, sym, ap, ap₂, ◌∙◌, subst}
 use mathlib.Core.Bool.{Bool}
 use mathlib.Core.List.{List, ◌∷◌}
-use mathlib.Core.Logic.{◌⊎◌, inl, inr}
-use Prim.Native.Nat.{ℕ, ◌<◌, ◌≤◌, ◌+◌, ◌-◌}
+use Prim.Native.Nat.{ℕ, ◌≤◌, ◌+◌}
 use native.Mathlib.Omega.{arith}
-use native.Mathlib.Numerals.{add-one}
 use lib.Dec.{eqb}
-use lib.ListN.{length, get_or, drop, drop_of_length-le}
-use lib.Seq.{drop-cons}
+use lib.ListN.{length, drop, drop_of_length-le}
 use borrow.Author.Tests.{eqb-true, eqb-false}
 use Rattle.base.specs.Choice.{pick}
-use Rattle.base.proofs.Tests.{split}
+use Rattle.base.proofs.Tests.{split, pick_yes, pick_no, code_yes, code_no}
 use Rattle.rules.specs.Table.{State, Outcome, state, outcome}
 use Rattle.rules.specs.Check.{check}
 use Rattle.rules.specs.Steps.{step, code_of, detail_of}
@@ -21,8 +18,8 @@ use Rattle.rules.specs.Changes.{changes, changes_all}
 use Rattle.rules.specs.declared.Record.{Record}
 use Rattle.rules.specs.declared.Made.{Made}
 use Rattle.rules.specs.declared.Step.{Step}
-use Rattle.schedule.specs.declared.Going.{Going}
-use Rattle.schedule.specs.Stands.{going, ended, begun, after, Settled}
+use Rattle.rules.specs.declared.Ran.{Ran}
+use Rattle.schedule.specs.Stands.{gone, ended, after, Settled}
 use Rattle.rules.proofs.Refused.{refused_stays}
 use Rattle.rules.proofs.Sums.{sum_done, sum_refused, sum_none, most_two}
 use Rattle.schedule.proofs.Settled.{starts_settled, step_settled}
@@ -51,110 +48,98 @@ sum_stop a rest s d l r c e f =
     sum_refused a rest s (λ q. f (ap (λ (o : Outcome). code_of o.answer) e ∙ q))
 
 module _ (xs : List Step) (last : Followed) (sum : ℕ) where
-  -- the whole run is what is left of it, and so are the colours changed; or it ended here, with a
-  -- code
-  abbrev pub Inv : Going → State → Type 0
+  -- the whole run is what is left of it, and so are the colours changed
+  abbrev pub Inv : Ran → State → Type 0
   Inv g s =
-      ((g.code ≡ 0) × (g.detail ≡ 0) × (g.end ≡ length xs) ×
-      (last ≡ follow (drop g.at xs) g.at s) ×
-      (sum ≡ g.changed + changes_all (drop g.at xs) s) × Settled s) ⊎
-      ((g.end ≡ g.at) × (last ≡ followed g.at g.code g.detail s) × (sum ≡ g.changed))
+      (g.code ≡ 0) × (g.detail ≡ 0) × (last ≡ follow (drop g.done xs) g.done s) ×
+      (sum ≡ g.changed + changes_all (drop g.done xs) s) × Settled s
 
-  pub counted : (g : Going) (s : State) → Inv g s → g.changed ≤ sum
-  counted g s (inl p) = omega (arith, p.4)
-  counted g s (inr p) = omega (arith, p.2)
+  -- the run is over
+  abbrev pub Over : Ran → State → Type 0
+  Over g s = (followed g.done g.code g.detail s ≡ last) × (g.changed ≡ sum)
 
-  pub inside : (g : Going) (s : State) → Inv g s → g.at < g.end → g.at < length xs
-  inside g s (inl p) lt = omega (arith, p.2, lt)
-  inside g s (inr p) lt = absurd (omega (arith, p.0, lt))
-
-  pub settled : (g : Going) (s : State) → Inv g s → g.at < g.end → Settled s
-  settled g s (inl p) lt = p.5
-  settled g s (inr p) lt = absurd (omega (arith, p.0, lt))
-
-  pub leaves : (g : Going) (s : State) → Inv g s → g.end ≤ g.at
-      → (last ≡ followed g.at g.code g.detail s) × (sum ≡ g.changed)
+  pub leaves : (g : Ran) (s : State) → Inv g s → length xs ≤ g.done → Over g s
   unfolding follow changes_all
-  leaves g s (inl p) le =
-      let none = drop_of_length-le xs {i = g.at} (omega (arith, p.2, le)) in
+  leaves g s p le =
+      let none = drop_of_length-le xs {i = g.done} le in
       let left = ap (λ (ys : List Step). changes_all ys s) none in (
-        p.3 ∙ ap (λ (ys : List Step). follow ys g.at s) none
-            ∙ ap₂ (λ (n d : ℕ). followed g.at n d s) (sym p.0) (sym p.1),
-        omega (arith, p.4, left),
+        sym (p.2 ∙ ap (λ (ys : List Step). follow ys g.done s) none
+            ∙ ap₂ (λ (n d : ℕ). followed g.done n d s) (sym p.0) (sym p.1)),
+        omega (arith, p.3, left),
       )
-  leaves g s (inr p) le = (p.1, p.2)
 
-  -- at what `advance` ensures
-  pub turns : (g : Going) (s : State) (b : Step) (d : Made) (l r c : List ℕ) (g' : Going) → Inv g s
-      → g.at < g.end
-      → outcome d l r c ≡ step (get_or xs g.at b) s
-      → d.changed ≡ changes (get_or xs g.at b) s → g' ≡ after g d
-      → Inv g' (state l r c g'.rec) × (g'.end - g'.at < g.end - g.at)
+  -- at what `advance` ensures of the i-th step
+  pub turns : (i : ℕ) (g : Ran) (s : State) (a : Step) (d : Made) (l r c : List ℕ) (g' : Ran)
+      → g.done ≡ i → Inv g s → drop i xs ≡ a ∷ drop (i + 1) xs
+      → outcome d l r c ≡ step a s → d.changed ≡ changes a s → g' ≡ after g d
+      → (g'.code ≡ 0 → (g'.done ≡ i + 1) × Inv g' (state l r c g'.rec))
+      × ((g'.code ≡ 0 → ⊥) → Over g' (state l r c g'.rec))
   unfolding after pick follow
-  turns g s b d l r c g' (inl p) lt e k h =
-      let a = get_or xs g.at b in
-      let rest = drop (g.at + 1) xs in
-      let cons =
-      drop-cons xs g.at b (inside g s (inl p) lt)
-      ∙ ap (λ (n : ℕ). a ∷ drop n xs) (sym (add-one g.at)) in
-      let summed = p.4 ∙ ap (λ (ys : List Step). g.changed + changes_all ys s) cons in
+  turns i g s a d l r c g' z p next e k h =
+      let cons = subst (λ (n : ℕ). drop n xs ≡ a ∷ drop (n + 1) xs) (sym z) next in
+      let rest = drop (g.done + 1) xs in
+      let summed = p.3 ∙ ap (λ (ys : List Step). g.changed + changes_all ys s) cons in
       let first =
-      p.3 ∙ ap (λ (ys : List Step). follow ys g.at s) cons
+      p.2 ∙ ap (λ (ys : List Step). follow ys g.done s) cons
       ∙ ap (λ (o : Outcome). pick (eqb (code_of o.answer) 0)
-      (follow (drop (g.at + 1) xs) (g.at + 1) o.state)
-      (followed g.at (code_of o.answer) (detail_of o.answer) s)) (sym e) in
+      (follow (drop (g.done + 1) xs) (g.done + 1) o.state)
+      (followed g.done (code_of o.answer) (detail_of o.answer) s)) (sym e) in
       let stays =
       subst (λ (o : Outcome). (code_of o.answer ≡ 0 → ⊥) → o.state ≡ s) (sym e)
       (refused_stays s a) in
-      let Kept : Going → Type 0 = λ z. Inv z (state l r c z.rec) ×
-      (z.end - z.at < g.end - g.at) in
+      let Kept : Ran → Type 0 = λ y.
+      (y.code ≡ 0 → (y.done ≡ i + 1) × Inv y (state l r c y.rec))
+      × ((y.code ≡ 0 → ⊥) → Over y (state l r c y.rec)) in
       subst Kept (sym h)
-      (split Kept (eqb (code_of d.answer) 0)
-      (going (g.at + 1) g.end (g.changed + d.changed) d.rec)
-      (ended g.at (code_of d.answer) (detail_of d.answer) g.changed d.rec)
+      (split Kept (eqb (code_of d.answer) 0) (gone g d) (ended g d)
       (λ t. (
-        inl (
-          refl,
-          refl,
-          p.2,
-          picked _ _ _ _ _ first t,
-          omega (arith, summed, sum_step a rest s d l r c e k (eqb-true _ _ t)),
-          subst (λ (o : Outcome). Settled o.state) (sym e) (step_settled s p.5 a),
-        ),
-        omega (arith, lt),
+        (λ q. (
+          ap (λ (n : ℕ). n + 1) z,
+          (
+            p.0,
+            p.1,
+            picked _ _ _ _ _ first t,
+            omega (arith, summed, sum_step a rest s d l r c e k (eqb-true _ _ t)),
+            subst (λ (o : Outcome). Settled o.state) (sym e) (step_settled s p.4 a),
+          ),
+        )),
+        (λ f. absurd (f p.0)),
       ))
       (λ t. (
-        inr (
-          refl,
-          picked _ _ _ _ _ first t
-              ∙ ap (followed g.at (code_of d.answer) (detail_of d.answer))
-              (sym (stays (eqb-false _ _ t))),
+        (λ q. absurd (eqb-false _ _ t q)),
+        (λ f. (
+          sym (picked _ _ _ _ _ first t
+              ∙ ap (followed g.done (code_of d.answer) (detail_of d.answer))
+              (sym (stays (eqb-false _ _ t)))),
           omega (arith, summed, sum_stop a rest s d l r c e (eqb-false _ _ t)),
-        ),
-        omega
-            (arith, lt),
+        )),
       )))
-  turns g s b d l r c g' (inr p) lt e k h = absurd (omega (arith, p.0, lt))
 
--- at what `begin` ensures
-pub begins : (xs : List Step) (l r c : List ℕ) (x : Record) (g : Going) → g
-    ≡ begun (check (state l r c x)) (length xs) x
-    → Inv xs (schedule xs (state l r c x)) (changes_all xs (state l r c x)) g (state l r c g.rec)
-unfolding schedule begun pick
-begins xs l r c x g h =
-    let s = state l r c x in
-    let e : schedule xs s ≡ pick (eqb (check s) 0) (follow xs 0 s) (followed 0 (check s) 0 s) =
-    refl in
-    let Begun : Going → Type 0 = λ z. Inv xs (schedule xs s) (changes_all xs s) z
-    (state l r c z.rec) in
-    subst Begun (sym h)
-    (split Begun (eqb (check s) 0) (going 0 (length xs) 0 x) (ended 0 (check s) 0 0 x)
-    (λ t. inl (
-      refl,
-      refl,
-      refl,
-      picked _ _ _ _ _ e t,
-      omega arith,
-      starts_settled s (sym (eqb-true _ _ t)),
-    ))
-    (λ t. inr (refl, picked _ _ _ _ _ e t, sum_none xs s (eqb-false _ _ t))))
+-- nothing is done yet
+abbrev pub start : ℕ → Record → Ran
+start code x = record { done = 0; code = code; detail = 0; changed = 0; rec = x }
+
+module _ (xs : List Step) (l r c : List ℕ) (x : Record) (code : ℕ) (e : code ≡ check (state l r c x))
+  where
+    pub begins : code ≡ 0
+        → Inv xs (schedule xs (state l r c x)) (changes_all xs (state l r c x)) (start code x)
+        (state l r c x)
+    unfolding schedule
+    begins h =
+        let s = state l r c x in (
+          h,
+          refl,
+          sym (pick_yes _ _ _ _ (code_yes code (check s) 0 e h) refl),
+          omega arith,
+          starts_settled s (sym h ∙ e),
+        )
+
+    pub spurned : (code ≡ 0 → ⊥)
+        → Over xs (schedule xs (state l r c x)) (changes_all xs (state l r c x)) (start code x)
+        (state l r c x)
+    unfolding schedule
+    spurned n =
+        let s = state l r c x in (
+          pick_no _ _ _ _ (code_no code (check s) 0 e n) (ap (λ (k : ℕ). followed 0 k 0 s) e),
+          sym (sum_none xs s (λ q. n (e ∙ q))),
+        )

@@ -1,6 +1,6 @@
 -- Where a session stands after the lines of a table: what the code leaves is what the bytes make of
 -- it.
-use Prim.Native.Nat.{ℕ, ◌-◌}
+use Prim.Native.Nat.{ℕ}
 use mathlib.Core.Bool.{Bool, true, false}
 use mathlib.Core.Path.{◌≡◌, refl, sym, ap, ◌∙◌}
 use mathlib.Core.List.{List, [], ◌∷◌, ◌++◌}
@@ -42,9 +42,9 @@ module _ (m : ℕ) (l k c ls rs : List ℕ) where
 pub served : (m : ℕ) (l k c input l' k' c' line out line' out' : List ℕ) (a b d : ℕ) (x y : Run)
     → Lent m a l l' → Lent m b k k' → Lent m d c c'
     → going y l' k' c' line' out' ≡ fold next_byte input
-    (going x (take (a - 0) l) (take (b - 0) k) (take (d - 0) c) line out)
+    (going x (take a l) (take b k) (take d c) line out)
     → (ls rs : List ℕ)
-    → standing (Serving m) y (l' ++ drop (a - 0) l) (k' ++ drop (b - 0) k) (c' ++ drop (d - 0) c) ls
+    → standing (Serving m) y (l' ++ drop a l) (k' ++ drop b k) (c' ++ drop d c) ls
     rs line' out'
     ≡ fold eats input (standing (Serving m) x l k c ls rs line out)
 unfolding standing going
@@ -57,12 +57,11 @@ served m l k c input l' k' c' line out line' out' a b d x y p q s e ls rs =
 
 -- the first line is answered, and leads to this stage
 pub begun_so : (g : Run) (x : Record) (st : Stage) (code node used : ℕ)
-    (l k c l' k' c' line out out' : List ℕ)
+    (l k c l' k' c' ls rs line out out' : List ℕ)
     → prints code node (state l' k' c' x) ≡ opened (read (take g.at line)) l k c
     → written out' used ≡ put_all (written out g.used) (said code node)
     → st ≡ pick (eqb code 0) (Second x.m) Over
-    → (ls rs : List ℕ)
     → standing st (record { rec = x; at = 0; used = used }) l' k' c' ls rs line out'
     ≡ begun (standing Opening g l k c ls rs line out)
 unfolding standing begun
-begun_so g x st code node used l k c l' k' c' line out out' e d q ls rs = rw (← e, ← d, q)
+begun_so g x st code node used l k c l' k' c' ls rs line out out' e d q = rw (← e, ← d, q)

@@ -1,24 +1,14 @@
 -- A part that is lent: the first n elements of a list, or all where it has fewer.
-use Prim.Native.Nat.{ℕ, ◌-◌, ◌≤◌, min}
+use Prim.Native.Nat.{ℕ, ◌≤◌, min}
 use mathlib.Core.Bool.{Bool, true, false}
-use mathlib.Core.Path.{◌≡◌, refl, sym, ap, ◌∙◌}
+use mathlib.Core.Path.{◌≡◌, refl, ap, ◌∙◌}
 use mathlib.Core.List.{List, ◌++◌, append-nil}
 use native.Mathlib.Omega.{arith}
-use native.Mathlib.Nat.{sub-zero}
 use borrow.Author.Tests.{leb-true, leb-false}
-use lib.ListN.{length, take, drop, length-take, drop_of_length-le, take-append-drop}
-use lib.Seq.{take-append_seam, drop-append_seam, take_at, drop_at, take_all, length-take-le}
+use lib.ListN.{length, take, drop, drop_of_length-le}
+use lib.Seq.{take_at, drop_at, take_all, length-take-le}
 use lib.Dec.{leb}
-
-pub front : (n : ℕ) (l : List ℕ) → take (min n (length l)) l ≡ take n l
-front n l =
-    rw (← length-take n l) (ap (take (length (take n l))) (sym (take-append-drop n l))
-    ∙ take-append_seam (take n l) (drop n l))
-
-back : (n : ℕ) (l : List ℕ) → drop (min n (length l)) l ≡ drop n l
-back n l =
-    rw (← length-take n l) (ap (drop (length (take n l))) (sym (take-append-drop n l))
-    ∙ drop-append_seam (take n l) (drop n l))
+use Rattle.std.proofs.lemmas.List.{take_min, drop_min}
 
 -- the part comes back as p
 module _ (n : ℕ) (l p : List ℕ) (e : length p ≡ length (take n l)) where
@@ -46,19 +36,16 @@ module _ (n : ℕ) (l p : List ℕ) (e : length p ≡ length (take n l)) where
 
 -- a is how many were lent, and p what came back: the whole is the part and what lay behind it
 pub record Lent (n a : ℕ) (l p : List ℕ) : Type 0 where
-  pub given : take (a - 0) l ≡ take n l
-  pub first : take n (p ++ drop (a - 0) l) ≡ p
-  pub rest : drop n (p ++ drop (a - 0) l) ≡ drop n l
+  pub given : take a l ≡ take n l
+  pub first : take n (p ++ drop a l) ≡ p
+  pub rest : drop n (p ++ drop a l) ≡ drop n l
 
-pub lent : (n a : ℕ) (l p : List ℕ) → a ≡ min n (length l) → length p ≡ length (take (a - 0) l)
+pub lent : (n a : ℕ) (l p : List ℕ) → a ≡ min n (length l) → length p ≡ length (take a l)
     → Lent n a l p
 lent n a l p e h =
-    let z : a - 0 ≡ min n (length l) = sub-zero a ∙ e in
-    let k : length p ≡ length (take n l) = h ∙ rw (z, front n l) in
+    let k : length p ≡ length (take n l) = h ∙ rw (e, take_min n l) in
     record {
-      given =
-          rw z (front n l);
-      first = rw (z, back n l) (same_front n l p k);
-      rest = rw (z, back n l)
-          (same_back n l p k);
+      given = rw e (take_min n l);
+      first = rw (e, drop_min n l) (same_front n l p k);
+      rest = rw (e, drop_min n l) (same_back n l p k);
     }

@@ -2,14 +2,14 @@
 -- is in buffers: the program's own tables, the lists of an export's edges, the line at hand and the
 -- output.
 use Rattle.base.specs.Choice.{pick}
-use Rattle.std.specs.Prelude.{ℕ, ◌+◌, Bool, true, false, List, [], ◌∷◌, ◌++◌, get_or, set, take, drop, ltb, eqb}
+use Rattle.std.specs.Prelude.{ℕ, ◌≡◌, ◌+◌, Bool, true, false, List, [], ◌∷◌, ◌++◌, get_or, set, take, drop, ltb, eqb, Option, Some, None}
 use Rattle.rules.specs.Table.{State, state}
 use Rattle.rules.specs.Records.{fresh_record}
 use Rattle.text.specs.Grammar.{read, is_export, entry}
 use Rattle.text.specs.Answers.{Written, written, contents, put_all, said}
-use Rattle.text.specs.declared.Listed.{Listed}
-use Rattle.text.specs.declared.Listed.TheVariants.{Edges, Stray}
+use Rattle.text.specs.declared.Edges.{Edges}
 use Rattle.lines.specs.Lines.{Line, prints, later, opened, loaded}
+use Rattle.session.specs.declared.Buffers.{Buffers}
 use Rattle.session.specs.declared.Run.{Run}
 use Rattle.session.specs.declared.Session.{Session}
 use Rattle.session.specs.declared.Stage.{Stage}
@@ -110,6 +110,23 @@ standing stage g l k c lefts rights line out =
 abbrev pub stand : Session → List ℕ → List ℕ → List ℕ → List ℕ → List ℕ → List ℕ → List ℕ → Stand
 stand s l k c lefts rights line out = standing s.stage s.run l k c lefts rights line out
 
+-- where the code stands with the buffers that it is lent together
+abbrev pub standing_in : Stage → Run → Buffers → Stand
+standing_in stage g b =
+    standing stage g b.left.now b.right.now b.colour.now b.lefts.now b.rights.now b.line.now
+    b.out.now
+
+abbrev pub stand_in : Session → Buffers → Stand
+stand_in s b = standing_in s.stage s.run b
+
+-- b lends the slices that a lends
+abbrev pub SameSlices : Buffers → Buffers → Type 0
+SameSlices a b =
+    (b.left.ghost_name ≡ a.left.ghost_name) × (b.right.ghost_name ≡ a.right.ghost_name) ×
+    (b.colour.ghost_name ≡ a.colour.ghost_name) × (b.lefts.ghost_name ≡ a.lefts.ghost_name) ×
+    (b.rights.ghost_name ≡ a.rights.ghost_name) × (b.line.ghost_name ≡ a.line.ghost_name) ×
+    (b.out.ghost_name ≡ a.out.ghost_name)
+
 -- the same in another stage, with other lines
 abbrev pub moved : Stage → Going → Stand → Stand
 moved stage g s = record {
@@ -162,12 +179,12 @@ abbrev pub dropped : Going → Going
 dropped g = record { state = g.state; line = written g.line.out 0; out = g.out }
 
 -- line n of an export is at its end
-unfoldable pub noting : ℕ → ℕ → Listed → Stand → Stand
-noting m n (Edges l r) s =
+unfoldable pub noting : ℕ → ℕ → Option Edges → Stand → Stand
+noting m n (Some e) s =
     pick (ltb (n + 1) s.going.state.rec.m)
-    (moved (Loading m (n + 1)) (dropped s.going) (noted n l r s))
-    (filled m (noted n l r s))
-noting m n Stray s = stopped m s
+    (moved (Loading m (n + 1)) (dropped s.going) (noted n e.left e.right s))
+    (filled m (noted n e.left e.right s))
+noting m n None s = stopped m s
 
 -- the line at hand is at its end
 unfoldable pub line_ended : Stage → Stand → Stand

@@ -1,40 +1,57 @@
 -- Counts of colours put together, and what they tell of each colour.
-use Prim.Native.Nat.{ℕ, zero, suc, ◌+◌, ◌-◌, ◌≤◌, ◌<◌}
-use mathlib.Core.Path.{◌≡◌, refl}
+use Prim.Native.Nat.{ℕ, zero, suc, ◌+◌, ◌-◌, ◌*◌, ◌/◌, ◌%◌, ◌≤◌, ◌<◌}
+use mathlib.Core.Path.{◌≡◌, refl, sym, ap, ◌∙◌}
 use mathlib.Core.Bool.{Bool, true, false}
 use mathlib.Core.List.{List}
-use lib.ListN.{length, get_or, set}
+use mathlib.Core.Logic.{◌⊎◌}
+use lib.ListN.{length, get_or, set, take, drop}
+use Rattle.std.proofs.lemmas.List.{get_or-take, get_or-drop}
+use Rattle.std.specs.List.{AllWithin, HoldsAt}
+use Rattle.std.proofs.Common.{Option, None, Some, length-take, drop-drop, length-drop, []}
+use Rattle.std.specs.Simd.{first_chunks}
+use Rattle.std.specs.Option.{MatchOption, unwrap_or}
+use Rattle.std.specs.Bool.{⊤}
 use lib.Seq.{get_or-set_same, get_or-set_other}
 use lib.Dec.{ltb}
-use borrow.Author.Tests.{ltb-true, ltb-false, eqb-true}
+use borrow.Author.Tests.{ltb-true, ltb-false}
 use native.Mathlib.Omega.{arith}
+use Rattle.std.proofs.lemmas.Bool.Decides.{nat_tests}
 use native.Mathlib.Numerals.{add-one}
 use Rattle.base.specs.Choice.{pick}
-use Rattle.base.proofs.Tests.{split}
-use Rattle.skim.specs.Stops.{stop, stops, Upto}
+use Rattle.skim.specs.Stops.{stop, stops, Upto, block}
+
+-- white and black are passed over
+pub passed : (v : ℕ) → (v ≡ 0) ⊎ (v ≡ 2) → 0 ≡ stop v
+unfolding stop pick
+passed v h = grind (arith, nat_tests)
+
+-- any other colour stops a look
+pub stopped : (v : ℕ) → (v ≡ 0 → ⊥) → (v ≡ 2 → ⊥) → 1 ≡ stop v
+unfolding stop pick
+stopped v g h = grind (arith, nat_tests)
 
 pub stop_most : (v : ℕ) → stop v ≤ 1
-unfolding stop
-stop_most v =
-    split (λ (n : ℕ). n ≤ 1) _ _ _ (λ e. omega arith)
-    (λ e. split (λ (n : ℕ). n ≤ 1) _ _ _ (λ f. omega arith) (λ f. omega arith))
+unfolding stop pick
+stop_most v = grind (arith, nat_tests)
 
 -- a colour that a look passes over is white or black
 pub still : (v : ℕ) → 0 ≡ stop v → (v ≤ 2) × (v ≡ 1 → ⊥)
-unfolding stop
-still v = split (λ (n : ℕ). 0 ≡ n → (v ≤ 2) × (v ≡ 1 → ⊥)) _ _ _
-    (λ e h. let q = eqb-true v 0 e in (omega arith, λ z. omega arith))
-    (λ e. split (λ (n : ℕ). 0 ≡ n → (v ≤ 2) × (v ≡ 1 → ⊥)) _ _ _ (λ f h. let q = eqb-true v 2 f in
-    (omega arith, λ z. omega arith)) (λ f h. absurd (omega arith)))
+unfolding stop pick
+still v h = grind (arith, nat_tests)
 
 pub stops_none : (c : List ℕ) (i : ℕ) → stops c i 0 ≡ 0
 unfolding stops
 stops_none c i = refl
 
 -- one colour more
-pub stops_more : (c : List ℕ) (i d : ℕ) → stops c i (d + 1) ≡ stops c i d + stop (get_or c (i + d) 0)
+pub stops_more : (c : List ℕ) (i d : ℕ)
+    → stops c i (d + 1) ≡ stops c i d + stop (get_or c (i + d) 0)
 unfolding stops
 stops_more c i d = rw add-one
+
+-- the same from the first colour on
+pub stops_next : (c : List ℕ) (d : ℕ) → stops c 0 (d + 1) ≡ stops c 0 d + stop (get_or c d 0)
+stops_next c d = let z : 0 + d ≡ d = omega arith in rw z at (stops_more c 0 d)
 
 -- a run and the run after it
 pub stops_joined : (c : List ℕ) (i d e : ℕ) → stops c i (d + e) ≡ stops c i d + stops c (i + d) e
@@ -51,14 +68,6 @@ pub stops_both : (c : List ℕ) (d e n a b : ℕ) → a ≡ stops c 0 d → b �
     → a + b ≡ stops c 0 n
 stops_both c d e n a b p q h =
     let z : 0 + d ≡ d = omega arith in rw (h, stops_joined, z) (omega arith)
-
--- a run that begins inside another
-pub stops_over : (c : List ℕ) (i d e w : ℕ) → e ≤ d → 0 ≡ stops c i d → 0 ≡ stops c (i + e) w → 0
-    ≡ stops c i (e + w)
-stops_over c i d e w h z y =
-    let s : d ≡ e + (d - e) = omega arith in
-    let a = stops_joined c i e (d - e) in
-    rw stops_joined (omega (arith, rw s at z))
 
 pub stops_most : (c : List ℕ) (i d : ℕ) → stops c i d ≤ d
 unfolding stops
@@ -88,6 +97,12 @@ upto_more c i j f f' p h s = record { none = λ q a b. go q a b (ltb j q) refl }
         let v = s (omega arith) in
         rw (z, stops_more) (omega arith)
     go q a b false t = let g = ltb-false j q t in p.none q (omega arith) (omega arith)
+
+-- the same from the first colour on
+pub upto_next : (c : List ℕ) (j f f' : ℕ) → Upto c 0 j f → f' ≤ f
+    → (j < f' → 0 ≡ stop (get_or c j 0)) → Upto c 0 (j + 1) f'
+upto_next c j f f' p h s =
+    let z : 0 + j ≡ j = omega arith in upto_more c 0 j f f' p h (λ k. rw z (s k))
 
 -- a colour outside the run does not count
 untouched : (c : List ℕ) (p v i d : ℕ) → ((j : ℕ) → j < d → i + j ≡ p → ⊥) → stops (set c p v) i d
@@ -126,3 +141,123 @@ alone c n p q h a s b f k =
     let e = rw z at (counts (set c q 0) 0 n p b) in
     let g = rw (get_or-set_other c q p 0 0 f) at e in
     omega arith
+
+-- in a part of the colours
+pub stops_part : (c : List ℕ) (i n d : ℕ) → d ≤ n → stops (take n (drop i c)) 0 d ≡ stops c i d
+unfolding stops
+stops_part c i n zero h = refl
+stops_part c i n (suc d) h =
+    let z : 0 + d ≡ d = omega arith in
+    rw (z, get_or-take n (drop i c) d 0 (omega arith), get_or-drop i c d 0)
+    (ap (λ (k : ℕ). k + stop (get_or c (i + d) 0)) (stops_part c i n d (omega arith)))
+
+pub stops_rest : (c : List ℕ) (i d : ℕ) → stops (drop i c) 0 d ≡ stops c i d
+unfolding stops
+stops_rest c i zero = refl
+stops_rest c i (suc d) =
+    let z : 0 + d ≡ d = omega arith in
+    rw (z, get_or-drop i c d 0) (ap (λ (k : ℕ). k + stop (get_or c (i + d) 0)) (stops_rest c i d))
+
+-- where none of the first d colours stops a look
+pub stops_zero : (c : List ℕ) (d : ℕ) → AllWithin (λ v. 0 ≡ stop v) c 0 d → 0 ≡ stops c 0 d
+stops_zero c zero h = sym (stops_none c 0)
+stops_zero c (suc d) h =
+    let i = stops_zero c d (λ k e a b. h k e a (omega arith)) in
+    let s = h d 0 (omega arith) (omega arith) in
+    let n = stops_next c d in rw (← add-one) (omega arith)
+
+-- before the first colour that stops a look, or at the end
+pub first_stop : (c : List ℕ) (r : Option ℕ) (n : ℕ)
+    → MatchOption r (AllWithin (λ v. 0 ≡ stop v) c 0 (length c))
+    (λ i. (i < length c) × HoldsAt (λ v. ⊤) c i × AllWithin (λ v. 0 ≡ stop v) c 0 i)
+    → n ≡ unwrap_or r (length c) → (n ≤ length c) × (0 ≡ stops c 0 n)
+first_stop c None n h e = rw e (omega arith, stops_zero c (length c) h)
+first_stop c (Some i) n h e = let a = h.0 in rw e (omega arith, stops_zero c i h.2)
+
+-- what is told of a part is told of the colours from its first on
+pub part_passed : (c : List ℕ) (i n d : ℕ)
+    → (d ≤ length (take (i + n - i) (drop i c))) × (0 ≡ stops (take (i + n - i) (drop i c)) 0 d)
+    → (d ≤ n) × (0 ≡ stops c i d)
+part_passed c i n d h =
+    let l = length-take (i + n - i) (drop i c) in
+    let a = h.0 in
+    let b : d ≤ i + n - i = omega arith in
+    (omega arith, rw (stops_part c i (i + n - i) d b) at h.1)
+
+-- the j-th of the blocks that a list begins with
+block_at : (n k j : ℕ) (c d : List ℕ) → j < k
+    → get_or (first_chunks n k c) j d ≡ take n (drop (j * n) c)
+block_at n zero j c d h = absurd (omega arith)
+block_at n (suc k) zero c d h = let z : 0 * n ≡ 0 = omega arith in rw z refl
+block_at n (suc k) (suc j) c d h =
+    let z : suc j * n ≡ n + j * n = omega arith in
+    rw (z, ← drop-drop (j * n) n c) (block_at n k j (drop n c) d (omega arith))
+
+-- one block more
+pub counted_more : (c : List ℕ) (bs : List (List ℕ)) (k j n s : ℕ) → bs ≡ first_chunks block k c
+    → length bs ≡ k → k ≡ length c / block → j < length bs → n ≤ j * block
+    → n ≡ stops c 0 (j * block)
+    → s ≡ stops (get_or bs j []) 0 (length (get_or bs j []))
+    → (n + s ≤ (j + 1) * block) × (n + s ≡ stops c 0 ((j + 1) * block))
+counted_more c bs k j n s e f g h a b d =
+    let at_j : get_or bs j [] ≡ take block (drop (j * block) c) =
+    rw e (block_at block k j c [] (omega arith)) in
+    let l = length-take block (drop (j * block) c) in
+    let m = length-drop (j * block) c in
+    let w : length (get_or bs j []) ≡ block = rw at_j (omega arith) in
+    let t : s ≡ stops c (j * block) block =
+    d ∙ (rw (w, at_j) (stops_part c (j * block) block block (omega arith))) in
+    let u = stops_most c (j * block) block in
+    (omega arith, stops_both c (j * block) block ((j + 1) * block) n s b t (omega arith))
+
+-- and those that are left
+pub counted_all : (c r : List ℕ) (j k n s : ℕ) → r ≡ drop (k * block) c
+    → length r ≡ length c % block
+    → k ≡ length c / block → k ≤ j → j ≤ k → n ≡ stops c 0 (j * block) → s ≡ stops r 0 (length r)
+    → n + s ≡ stops c 0 (length c)
+counted_all c r j k n s e f g h i a b =
+    let z : j ≡ k = omega arith in
+    stops_both c (j * block) (length r) (length c) n s a
+    (b ∙ rw (e, z) (stops_rest c (k * block) (length (drop (k * block) c))))
+    (omega arith)
+
+-- where none of the first j blocks has a stop
+blocks_zero : (c : List ℕ) (bs : List (List ℕ)) (k j : ℕ) → bs ≡ first_chunks block k c → j ≤ k
+    → AllWithin (λ b. 0 ≡ stops b 0 block) bs 0 j → 0 ≡ stops c 0 (j * block)
+blocks_zero c bs k zero e h a = let z : 0 * block ≡ 0 = omega arith in rw z (sym (stops_none c 0))
+blocks_zero c bs k (suc j) e h a =
+    let i = blocks_zero c bs k j e (omega arith) (λ n d p q. a n d p (omega arith)) in
+    let s = a j [] (omega arith) (omega arith) in
+    let p = stops_part c (j * block) block block (omega arith) in
+    let t = rw (e, block_at block k j c [] h, p) at s in
+    let z : suc j * block ≡ j * block + block = omega arith in
+    let o : 0 + j * block ≡ j * block = omega arith in
+    rw (z, stops_joined, o) (omega arith)
+
+-- a shorter run
+pub stops_less : (c : List ℕ) (i d e : ℕ) → e ≤ d → 0 ≡ stops c i d → 0 ≡ stops c i e
+stops_less c i d e h z =
+    let s : d ≡ e + (d - e) = omega arith in
+    let a = stops_joined c i e (d - e) in omega (arith, rw s at z)
+
+-- a run, and what is told of the part behind it
+pub stops_then : (c : List ℕ) (d n e : ℕ) → 0 ≡ stops c 0 d → e ≤ n
+    → 0 ≡ stops (take n (drop d c)) 0 e → 0 ≡ stops c 0 (d + e)
+stops_then c d n e z h k =
+    let a = rw (stops_part c d n e h) at k in
+    let o : 0 + d ≡ d = omega arith in rw (stops_joined, o) (omega arith)
+
+-- the blocks before the first that has a stop, or all but the last colours, of which there is a
+-- block
+pub blocks_before : (c : List ℕ) (bs : List (List ℕ)) (k d : ℕ) (r : Option ℕ)
+    → bs ≡ first_chunks block k c → length bs ≡ k → k ≡ length c / block → block ≤ length c
+    → MatchOption r (AllWithin (λ b. 0 ≡ stops b 0 block) bs 0 (length bs))
+    (λ j. (j < length bs) × HoldsAt (λ b. ⊤) bs j × AllWithin (λ b. 0 ≡ stops b 0 block) bs 0 j)
+    → MatchOption r (d ≡ length c - block) (λ j. d ≡ j * block)
+    → (d + block ≤ length c) × (0 ≡ stops c 0 d)
+blocks_before c bs k d None e f g m h i =
+    let z = blocks_zero c bs k (length bs) e (omega arith) h in
+    (omega arith, stops_less c 0 (length bs * block) d (omega arith) z)
+blocks_before c bs k d (Some j) e f g m h i =
+    let a = h.0 in
+    (omega arith, rw i (blocks_zero c bs k j e (omega arith) h.2))

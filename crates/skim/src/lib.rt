@@ -11,36 +11,25 @@ const BLOCK: usize = 64;
 const BEHIND: u8 = 64;
 
 // 1 where this colour stops a look, else 0.
+// Kept: a number, since `stops_among` sums it, as the definition `stops` does.
 pub fn stop(v: u8) -> u8
     ensures { (result ≤ 1) × (result ≡ stop v) }
 {
-    if v == 0 {
-        return 0;
+    match v {
+        0 | 2 => 0,
+        _ => 1,
     }
-    if v == 2 {
-        return 0;
-    }
-    1
 }
 
-fn wide(a: u8) -> usize
-    ensures { result ≡ a }
-{
-    a as usize
-}
-
-// How many of the d colours from i on stop a look. It reads them all, so that the compiler can take
-// them many at a time where d is a block's size.
-fn stops_among(colour: &[u8], i: usize, d: usize) -> u8
-    requires d_in_bounds { i + d ≤ length colour.now }
-    requires d_le_block { d ≤ block }
-    ensures { (result ≤ d) × (result ≡ stops colour.now i d) }
+// How many of the colours, at most a block, stop a look. It reads them all, so that the compiler
+// can take them many at a time where they are a block.
+fn stops_among(colours: &[u8]) -> u8
+    requires { length colours.now ≤ block }
+    ensures { (result ≤ length colours.now) × (result ≡ stops colours.now 0 (length colours.now)) }
 {
     let mut found = 0;
-    let mut j = 0;
-    while j < d {
-        found += stop(colour[i + j]);
-        j += 1;
+    for v in colours {
+        found += stop(*v);
     }
     found
 }
@@ -49,80 +38,55 @@ fn stops_among(colour: &[u8], i: usize, d: usize) -> u8
 pub fn all_stops(colour: &[u8]) -> usize
     ensures { result ≡ stops colour.now 0 (length colour.now) }
 {
+    let (blocks, rest) = colour.as_chunks::<BLOCK>();
     let mut found = 0;
-    let mut d = 0;
-    while BLOCK <= colour.len() - d {
-        found += wide(stops_among(colour, d, BLOCK));
-        d += BLOCK;
+    for colours in blocks {
+        found += usize::from(stops_among(colours));
     }
-    found + wide(stops_among(colour, d, colour.len() - d))
+    found + usize::from(stops_among(rest))
 }
 
 // j where this colour stops a look, else behind the block.
+// Kept: no Option: tried, `position` on a block takes 26 ns where none of 64 stops, for 10 ns.
 fn stop_at(v: u8, j: u8) -> u8
     ensures { j < result → 0 ≡ stop v }
 {
-    if stop(v) != 0 {
-        return j;
-    }
-    BEHIND
+    if stop(v) != 0 { j } else { BEHIND }
 }
 
-fn least(a: u8, b: u8) -> u8
-    ensures { (result ≤ a) × (result ≤ b) }
-{
-    if a < b {
-        return a;
-    }
-    b
-}
-
-// Where the first colour is, in the block from i on, that stops a look; the block's size if none
-// does.
-fn first_in_block(colour: &[u8], i: usize) -> usize
-    requires { i + block ≤ length colour.now }
-    ensures { (result ≤ block) × (0 ≡ stops colour.now i result) }
+// Where the first colour is that stops a look; the block's size if none does.
+// Kept: `as`: a `usize` has no `From` into a narrower type, and j is below a block.
+fn first_in_block(colours: &[u8]) -> usize
+    requires { length colours.now ≡ block }
+    ensures { (result ≤ block) × (0 ≡ stops colours.now 0 result) }
 {
     let mut first = BEHIND;
-    let mut j = 0;
-    while j < BLOCK {
-        first = least(first, stop_at(colour[i + j], j as u8));
-        j += 1;
+    for (j, v) in colours.iter().enumerate() {
+        first = first.min(stop_at(*v, j as u8));
     }
-    wide(first)
+    usize::from(first)
 }
 
-// From i on, at most most colours, up to the first that stops a look, a block at a time. The last
-// ones are read with some of those before them.
-fn until_stop_by_blocks(colour: &[u8], i: usize, most: usize) -> usize
-    requires most_in_bounds { i + most ≤ length colour.now }
-    requires block_le_most { block ≤ most }
-    ensures { (result ≤ most) × (0 ≡ stops colour.now i result) }
+// How many colours come before the first that stops a look, a block at a time. The last ones are
+// read with some of those before them.
+fn until_stop_by_blocks(run: &[u8]) -> usize
+    requires { block ≤ length run.now }
+    ensures { (result ≤ length run.now) × (0 ≡ stops run.now 0 result) }
 {
-    let mut d = 0;
-    while BLOCK <= most - d {
-        if stops_among(colour, i + d, BLOCK) != 0 {
-            return d + first_in_block(colour, i + d);
-        }
-        d += BLOCK;
-    }
-    let e = most - BLOCK;
-    e + first_in_block(colour, i + e)
+    let (blocks, _) = run.as_chunks::<BLOCK>();
+    let stopping = blocks.iter().position(|colours| stops_among(colours) != 0);
+    let d = match stopping {
+        Some(n) => n * BLOCK,
+        None => run.len() - BLOCK,
+    };
+    d + first_in_block(&run[d..d + BLOCK])
 }
 
 // The same, one at a time.
-fn until_stop_by_ones(colour: &[u8], i: usize, most: usize) -> usize
-    requires { i + most ≤ length colour.now }
-    ensures { (result ≤ most) × (0 ≡ stops colour.now i result) }
+fn until_stop_by_ones(run: &[u8]) -> usize
+    ensures { (result ≤ length run.now) × (0 ≡ stops run.now 0 result) }
 {
-    let mut d = 0;
-    while d < most {
-        if stop(colour[i + d]) != 0 {
-            return d;
-        }
-        d += 1;
-    }
-    d
+    run.iter().position(|v| stop(*v) != 0).unwrap_or(run.len())
 }
 
 // How many colours from i on, at most most, a look passes over.
@@ -130,8 +94,10 @@ pub fn until_stop(colour: &[u8], i: usize, most: usize) -> usize
     requires { i + most ≤ length colour.now }
     ensures { (result ≤ most) × (0 ≡ stops colour.now i result) }
 {
+    let run = &colour[i..i + most];
     if most < BLOCK {
-        return until_stop_by_ones(colour, i, most);
+        until_stop_by_ones(run)
+    } else {
+        until_stop_by_blocks(run)
     }
-    until_stop_by_blocks(colour, i, most)
 }

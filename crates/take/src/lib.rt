@@ -11,21 +11,19 @@ ghost use Rattle.rules.specs.Facts.{Checked};
 ghost use Rattle.rules.specs.declared.Record.{Record};
 ghost use Rattle.rules.specs.Lent.{given, leaves};
 
-use places::Source;
 use rules::{Answer, Made, Place, Record};
 
+// Kept: slices and record go one by one: a struct of `&mut` slices would need a clause in each
+// function that it lends the same ones afterwards, as `SameSlices` of session is. That they pass is
+// a clause, since a table and a record from C may be anything.
+
 // Whether an edge of the free chain is bad: to a root other than NIL, or at least M.
+#[tactic(auto, unfolding(base::specs::Choice::every, rules::specs::Editor::bad_free))]
 fn bad_free(m: u16, r: u16, e: u16) -> bool
     requires { r ≤ most_slots }
     ensures { result ≡ bad_free m r e }
 {
-    if m <= e {
-        return true;
-    }
-    if e < 1 {
-        return false;
-    }
-    e <= r + 1
+    m <= e || 1 <= e && e <= r + 1
 }
 
 // The edge points to f, FREE's left edge to g, f's left edge to NIL; f is shaded, and 1 answered
@@ -41,20 +39,18 @@ fn relink(
 ) -> u8
     requires side_bound { side < 2 }
     requires in_bounds { 1 < length left.old }
-    requires in_bounds_2 { 1 < length right.old }
     requires n_in_bounds { n < length left.old }
     requires n_in_bounds_2 { n < length right.old }
     requires f_in_bounds { f < length left.old }
-    requires f_in_bounds_2 { f < length right.old }
-    requires f_in_bounds_3 { f < length colour.old }
+    requires f_in_bounds_2 { f < length colour.old }
     ensures x_value { (x : Record) → state left.new right.new colour.new x
         ≡ relink (given left.old right.old colour.old x) n side f g }
     ensures colour_value { colour.new ≡ shade_in colour.old f }
     ensures value { result ≡ differing colour.old colour.new }
 {
     table::set_edge(left, right, side, n, f);
-    table::set_edge(left, right, 0, 1, g);
-    table::set_edge(left, right, 0, f, 0);
+    left[1] = g;
+    left[usize::from(f)] = 0;
     table::shade_node(colour, f)
 }
 
@@ -80,8 +76,7 @@ fn take_next(
     if bad_free(x.m, x.r, g) {
         return rules::refusal_with(7, f, rules::LEFT, x);
     }
-    let first = f as usize;
-    if 2 < colour[first] {
+    if colour[usize::from(f)] > table::BLACK {
         return rules::refusal(14, f, x);
     }
     if g == 0 {
@@ -92,8 +87,7 @@ fn take_next(
             rec: x.less_free().with_last(1),
         };
     }
-    let next = g as usize;
-    if 2 < colour[next] {
+    if colour[usize::from(g)] > table::BLACK {
         return rules::refusal(14, g, x);
     }
     let taken = relink(left, right, colour, n, side, f, g);
@@ -129,7 +123,7 @@ fn take_first(
     if f == 0 {
         return rules::refusal(9, 0, x);
     }
-    let g = table::edge(left, right, 0, f);
+    let g = left[usize::from(f)];
     take_next(left, right, colour, x, n, side, f, g)
 }
 
@@ -151,13 +145,12 @@ fn take_from(
         []) 0 1)) }
     ensures changed_value { result.changed ≡ differing colour.old colour.new }
 {
-    let from = places::depart(left, right, x.m, p);
-    match from {
-        Source::Found(n) => {
-            let f = table::edge(left, right, 0, 1);
+    match places::depart(left, right, x.m, p) {
+        Ok(n) => {
+            let f = left[1];
             take_first(left, right, colour, x, side, f, n)
         }
-        Source::Missing(code, n, detail) => rules::refusal_with(code, n, detail, x),
+        Err(why) => rules::refusal_with(why.code, why.node, why.detail, x),
     }
 }
 

@@ -1,56 +1,67 @@
 -- The pieces of a line, byte by byte.
 use Prim.Native.Nat.{ℕ, zero, suc, ◌+◌, ◌-◌, ◌*◌, ◌%◌, ◌^◌, ◌<◌, ◌≤◌}
-use mathlib.Core.Bool.{Bool, true, false}
-use mathlib.Core.Path.{◌≡◌, refl, sym}
+use mathlib.Core.Bool.{Bool, true, false, true≢false, false≢true, ◌&&◌}
+use mathlib.Core.Path.{◌≡◌, refl, sym, ◌∙◌}
 use mathlib.Core.List.{List, [], ◌∷◌}
 use native.Mathlib.Omega.{arith}
 use native.Mathlib.Nat.{pow-suc, pow-le-pow_right, zero-mul, one-mul}
-use native.Mathlib.Numerals.{sub-one, add-one}
-use borrow.Author.Tests.{ltb-true, ltb-false}
-use lib.ListN.{length, get_or, drop, drop_of_length-le, get_or-eq_default}
-use lib.Seq.{drop-cons}
-use lib.Dec.{ltb, eqb}
-use Rattle.base.specs.Choice.{pick}
-use Rattle.base.proofs.Tests.{split, facts, each}
-use Rattle.text.specs.Grammar.{byte_at, lost, after, is_digit, digits_at, number, side_at}
-use Rattle.text.specs.Grammar.{letters_at, turns, many_words}
-use Rattle.text.specs.declared.Side.{Side}
+use native.Mathlib.Numerals.{sub-one}
+use denote.Ref.{Bor}
+use lib.ListN.{length, take, drop}
+use lib.Dec.{eqb, leb}
+use Rattle.std.specs.Char.{is_ascii_digit}
+use Rattle.std.specs.Cmp.Lexicographic.{pointwise}
+use Rattle.std.specs.Prelude.{Option, Some, None, MatchOption, option_copied}
+use Rattle.base.specs.Choice.{pick, every}
+use Rattle.base.proofs.Tests.{pick_yes, pick_no, facts, each}
+use Rattle.text.specs.Grammar.{after, is_digit, digits_at, side_at, letters_at, turns}
+use Rattle.text.specs.Grammar.{many_words, longest}
+use Rattle.text.specs.Grammar.{whole, or_else}
+use Rattle.text.specs.declared.Said.{Said}
 
-pub there : (line : List ℕ) (i : ℕ) → i < length line → get_or line i 0 ≡ byte_at line i
-unfolding byte_at
-there [] i h = absurd (omega arith)
-there (b ∷ line) zero h = refl
-there (b ∷ line) (suc i) h = there line i (omega arith)
-
-pub past : (line : List ℕ) (i : ℕ) → length line ≤ i → 256 ≡ byte_at line i
-unfolding byte_at
-past line i h = sym (get_or-eq_default line 256 h)
-
--- what is a byte stands inside the line
-pub inside : (line : List ℕ) (i b : ℕ) → b ≡ byte_at line i → b < 256 → i < length line
-inside line i b e h = go (ltb i (length line)) refl
+missed : (s p : List ℕ) → pointwise eqb (take (length p) s) p ≡ false → None ≡ after s p
+unfolding after pick
+missed s [] h = absurd (true≢false h)
+missed [] (b ∷ p) h = refl
+missed (c ∷ s) (b ∷ p) h = go (eqb c b) (missed s p) h
   where
-    go : (t : Bool) → ltb i (length line) ≡ t → i < length line
-    go true q = ltb-true _ _ q
-    go false q =
-        let p = past line i (ltb-false _ _ q) in
-        absurd (omega arith)
+    go : (t : Bool) → (pointwise eqb (take (length p) s) p ≡ false → None ≡ after s p)
+        → (t && pointwise eqb (take (length p) s) p) ≡ false
+        → None ≡ pick t (after s p) None
+    go true f h = f h
+    go false f h = refl
 
-pub digit_is : (b : ℕ) → true ≡ is_digit b → (48 ≤ b) × (b ≤ 57)
-unfolding is_digit
-digit_is b e = omega (facts, each _ e)
+stood : (s p : List ℕ) → pointwise eqb (take (length p) s) p ≡ true
+    → Some (drop (length p) s) ≡ after s p
+unfolding after pick
+stood s [] h = refl
+stood [] (b ∷ p) h = absurd (false≢true h)
+stood (c ∷ s) (b ∷ p) h = go (eqb c b) (stood s p) h
+  where
+    go : (t : Bool)
+        → (pointwise eqb (take (length p) s) p ≡ true → Some (drop (length p) s) ≡ after s p)
+        → (t && pointwise eqb (take (length p) s) p) ≡ true
+        → Some (drop (length p) s) ≡ pick t (after s p) None
+    go true f h = f h
+    go false f h = absurd (false≢true h)
 
--- a number of as many digits as are no more to come
-pub small : (more n : ℕ) → 0 < more → n < 10 ^ (7 - more) → n < 1000000
-small more n h e =
-    let p = pow-le-pow_right {n = 10} (omega arith) {i = 7 - more} {j = 6} (omega arith) in
-    omega arith
+-- what the library strips is the word of the definition
+pub stripped : (s p : List ℕ) (r : Option (Bor (List ℕ)))
+    → MatchOption r (pointwise eqb (take (length p) s) p ≡ false)
+    (λ x. (pointwise eqb (take (length p) s) p ≡ true) × (x.now ≡ drop (length p) s)
+    × (length x.now + length p ≡ length s))
+    → option_copied r ≡ after s p
+stripped s p None h = missed s p h
+stripped s p (Some x) h = rw h.1 (stood s p h.0)
 
-pub longer : (more n d : ℕ) → 0 < more → more ≤ 7 → n < 10 ^ (7 - more) → d ≤ 9
-    → n * 10 + d < 10 ^ (7 - (more - 1))
-longer more n d h k e s =
-    let q : 7 - (more - 1) ≡ suc (7 - more) = omega arith in
-    rw (q, pow-suc) (omega arith)
+-- a number of as many digits as were read
+pub small : (k n : ℕ) → k < 7 → n < 10 ^ k → n < 1000000
+small k n h e =
+    let p = pow-le-pow_right {n = 10} (omega arith) {i = k} {j = 6} (omega arith) in omega arith
+
+pub longer : (k n d : ℕ) → n < 10 ^ k → d ≤ 9 → n * 10 + d < 10 ^ (k + 1)
+longer k n d e s =
+    let q : k + 1 ≡ suc k = omega arith in rw (q, pow-suc) (omega arith)
 
 -- a side's part of the word
 pub part : (s bit : ℕ) → s ≤ 1 → bit < many_words → s * bit < many_words
@@ -59,45 +70,111 @@ part (suc s) bit h k =
     let q : s ≡ 0 = omega arith in
     rw (q, one-mul) k
 
-module _ (line : List ℕ) where
-  pub word_turn : (i k : ℕ) (word : List ℕ) → k < length word
-      → after line i (drop k word) ≡ pick (eqb (byte_at line i) (get_or word k 0))
-      (after line (i + 1) (drop (k + 1) word)) lost
-  unfolding after
-  word_turn i k word h = rw (drop-cons word k 0 h, add-one k)
+pub no_bytes : (s : List ℕ) → length s ≡ 0 → s ≡ []
+no_bytes [] h = refl
+no_bytes (b ∷ s) h = absurd (omega arith)
 
-  pub word_done : (i k : ℕ) (word : List ℕ) → length word ≤ k → i ≡ after line i (drop k word)
-  unfolding after
-  word_done i k word h = rw (drop_of_length-le word h)
+-- the library's test of a digit is the definition's
+digit_tested : (b : ℕ) → is_ascii_digit b ≡ is_digit b
+unfolding is_digit every
+digit_tested b = go (leb 48 b) (leb b 57)
+  where
+    go : (s t : Bool) → (s && t) ≡ (s && (t && true))
+    go true true = refl
+    go true false = refl
+    go false t = refl
 
-  pub digits_turn : (more n i : ℕ) → 0 < more
-      → digits_at line more n i ≡ pick (is_digit (byte_at line i))
-      (digits_at line (more - 1) (n * 10 + (byte_at line i - 48)) (i + 1)) (number n i)
-  unfolding digits_at
-  digits_turn zero n i h = absurd (omega arith)
-  digits_turn (suc more) n i h = rw sub-one
+pub no_digit : (r : Bool) (b : ℕ) → r ≡ is_ascii_digit b → r ≡ false → false ≡ is_digit b
+no_digit r b e h = sym h ∙ e ∙ digit_tested b
 
-  pub digits_done : (more n i : ℕ) → more ≤ 0 → number n i ≡ digits_at line more n i
-  unfolding digits_at
-  digits_done zero n i h = refl
-  digits_done (suc more) n i h = absurd (omega arith)
+pub a_digit : (r : Bool) (b : ℕ) → r ≡ is_ascii_digit b → r ≡ true → true ≡ is_digit b
+a_digit r b e h = sym h ∙ e ∙ digit_tested b
 
-  pub letters_turn : (more n word bit i : ℕ) → 0 < more
-      → letters_at line more n word bit i ≡ pick (eqb (side_at line i).at lost) (turns n word i)
-      (letters_at line (more - 1) (n + 1) ((word + (side_at line i).side * bit) % many_words)
-      (bit * 2 % many_words) (side_at line i).at)
-  unfolding letters_at
-  letters_turn zero n word bit i h = absurd (omega arith)
-  letters_turn (suc more) n word bit i h = rw sub-one
+pub digit_is : (b : ℕ) → true ≡ is_digit b → (48 ≤ b) × (b ≤ 57)
+unfolding is_digit
+digit_is b e = omega (facts, each _ e)
 
-  pub letters_done : (more n word bit i : ℕ) → more ≤ 0 → turns n word i
-      ≡ letters_at line more n word bit i
-  unfolding letters_at
-  letters_done zero n word bit i h = refl
-  letters_done (suc more) n word bit i h = absurd (omega arith)
+pub digits_out : (more n : ℕ) → (n, []) ≡ digits_at [] more n
+unfolding digits_at
+digits_out zero n = refl
+digits_out (suc more) n = refl
 
-  pub side_small : (i : ℕ) → (side_at line i).side ≤ 1
-  unfolding side_at
-  side_small i =
-      split (λ (s : Side). s.side ≤ 1) _ _ _ (λ _. omega arith)
-      (λ _. split (λ (s : Side). s.side ≤ 1) _ _ _ (λ _. omega arith) (λ _. omega arith))
+pub digits_stop : (more n b : ℕ) (line : List ℕ) → false ≡ is_digit b
+    → (n, b ∷ line) ≡ digits_at (b ∷ line) more n
+unfolding digits_at
+digits_stop zero n b line h = refl
+digits_stop (suc more) n b line h = pick_no _ _ _ _ h refl
+
+digits_turn : (more n b : ℕ) (line : List ℕ) → 0 < more → true ≡ is_digit b
+    → digits_at (b ∷ line) more n ≡ digits_at line (more - 1) (n * 10 + (b - 48))
+unfolding digits_at
+digits_turn zero n b line h e = absurd (omega arith)
+digits_turn (suc more) n b line h e = rw sub-one (sym (pick_yes _ _ _ _ e refl))
+
+-- d is digit k of seven
+pub digits_next : (k n b d : ℕ) (line : List ℕ) → k < 7 → true ≡ is_digit b → d ≡ b - 48
+    → digits_at (b ∷ line) (7 - k) n ≡ digits_at line (7 - (k + 1)) (n * 10 + d)
+digits_next k n b d line h e q =
+    let z : 7 - k - 1 ≡ 7 - (k + 1) = omega arith in
+    digits_turn (7 - k) n b line (omega arith) e ∙ rw (z, q) refl
+
+pub digits_done : (more n : ℕ) (line : List ℕ) → more ≤ 0 → (n, line) ≡ digits_at line more n
+unfolding digits_at
+digits_done zero n line h = refl
+digits_done (suc more) n line h = absurd (omega arith)
+
+pub side_small : (line : List ℕ) (s : ℕ × List ℕ) → Some s ≡ side_at line → s.0 ≤ 1
+unfolding side_at pick
+side_small [] s h = absurd (cc)
+side_small (b ∷ line) s h = go (eqb b 76) (eqb b 82) h
+  where
+    go : (t u : Bool) → Some s ≡ pick t (Some (0, line)) (pick u (Some (1, line)) None)
+        → s.0 ≤ 1
+    go true u h = let e : s ≡ (0, line) = cc in rw e (omega arith)
+    go false true h = let e : s ≡ (1, line) = cc in rw e (omega arith)
+    go false false h = absurd (cc)
+
+pub letters_stop : (more n word bit : ℕ) (line : List ℕ) → None ≡ side_at line
+    → (turns n word, line) ≡ letters_at line more n word bit
+unfolding letters_at
+letters_stop zero n word bit line h = refl
+letters_stop (suc more) n word bit line h = rw (← h)
+
+letters_turn : (more n word bit s : ℕ) (line rest : List ℕ) → 0 < more
+    → Some (s, rest) ≡ side_at line
+    → letters_at line more n word bit
+    ≡ letters_at rest (more - 1) (n + 1) ((word + s * bit) % many_words) (bit * 2 % many_words)
+unfolding letters_at
+letters_turn zero n word bit s line rest h e = absurd (omega arith)
+letters_turn (suc more) n word bit s line rest h e = rw (sub-one, ← e)
+
+-- s is turn k
+pub letters_next : (k n word bit s : ℕ) (line rest : List ℕ) → k < longest
+    → Some (s, rest) ≡ side_at line
+    → letters_at line (longest - k) n word bit
+    ≡ letters_at rest (longest - (k + 1)) (n + 1) ((word + s * bit) % many_words)
+    (bit * 2 % many_words)
+letters_next k n word bit s line rest h e =
+    let z : longest - k - 1 ≡ longest - (k + 1) = omega arith in
+    letters_turn (longest - k) n word bit s line rest (omega arith) e ∙ rw z refl
+
+pub letters_done : (more n word bit : ℕ) (line : List ℕ) → more ≤ 0
+    → (turns n word, line) ≡ letters_at line more n word bit
+unfolding letters_at
+letters_done zero n word bit line h = refl
+letters_done (suc more) n word bit line h = absurd (omega arith)
+
+-- a form is read where it stands, and else the next
+pub ended : {A : Type 0} (r : Option A) (t o : Option (A × List ℕ)) → t ≡ o → r ≡ whole t
+    → r ≡ whole o
+ended r t o q e = rw (← q) e
+
+pub said_here : {A : Type 0} (z : Said) (r o : Option A) (x : A) (f : A → Said) (other : Said)
+    → r ≡ o → r ≡ Some x → z ≡ f x → z ≡ or_else o f other
+said_here z r o x f other e h k = rw (← e, h) k
+
+pub said_next : {A : Type 0} (z : Said) (r o : Option A) (f : A → Said) (other : Said)
+    → r ≡ o → r ≡ None → z ≡ other → z ≡ or_else o f other
+said_next z r o f other e h k = rw (← e, h) k
+
+pub ruleset forms = (ended, said_here, said_next)

@@ -2,19 +2,18 @@
 // of the lines are definitions in specs/.
 #![tactic(auto)]
 
-ghost use Rattle.std.specs.Prelude.{◌≡◌, ◌+◌, ◌<◌, ◌≤◌, length};
-ghost use Rattle.text.specs.Grammar.{byte_at, after, is_digit, digits_at, number_at, side_at};
-ghost use Rattle.text.specs.Grammar.{letters_at, turns_at, place_at, take_line, link_line};
-ghost use Rattle.text.specs.Grammar.{shade_line, look_line, collect_line, first_line, counted};
-ghost use Rattle.text.specs.Grammar.{longest, read, is_export, entry_line, entry};
+ghost use Rattle.std.specs.Prelude.{◌≡◌, ◌+◌, ◌<◌, ◌≤◌, length, option_copied};
+ghost use Rattle.text.specs.Grammar.{after, digits_at, number_at, side_at, letters_at, turns_at};
+ghost use Rattle.text.specs.Grammar.{place_at, take_line, link_line, shade_line, look_line};
+ghost use Rattle.text.specs.Grammar.{collect_line, first_line, entry_line, counted, longest};
+ghost use Rattle.text.specs.Grammar.{seen, whole, read, is_export, entry};
 ghost use Rattle.text.specs.Answers.{digit_of, decimal, said, written, put, put_all};
+ghost use Rattle.rules.specs.Steps.{step_of};
 
-use rules::Step;
+use rules::{Place, Step};
 
-// The bytes of a line at most, and a position past the end of each line.
+// The bytes of a line at most.
 const LONGEST: usize = 80;
-
-const LOST: usize = 81;
 
 // The letters of turns at most: as many as a line has bytes.
 const LETTERS: u32 = 80;
@@ -27,6 +26,13 @@ const COUNT: u32 = 1000000;
 // One more than the largest word of twelve turns.
 const MANY_WORDS: u32 = 4096;
 
+// The numbers of a step that its kind does not need.
+const UNREAD: Place = Place {
+    slot: 0,
+    count: 0,
+    word: 0,
+};
+
 // What a line says.
 #[derive(Clone, Copy)]
 pub enum Said {
@@ -36,382 +42,280 @@ pub enum Said {
     Unreadable,
 }
 
-// A number, and the position behind it.
-#[derive(Clone, Copy)]
-pub struct Number {
-    pub value: u32,
-    pub at: usize,
-}
-
-// A side, and the position behind it.
-#[derive(Clone, Copy)]
-pub struct Side {
-    pub side: u32,
-    pub at: usize,
-}
-
-// Turns, and the position behind them.
+// Letters: how many, and the word of the first twelve.
 #[derive(Clone, Copy)]
 pub struct Turns {
     pub count: u32,
     pub word: u32,
-    pub at: usize,
 }
 
-// A place, and the position behind it.
-#[derive(Clone, Copy)]
-pub struct Spot {
-    pub slot: u32,
-    pub count: u32,
-    pub word: u32,
-    pub at: usize,
-}
-
-// M and R, and the position behind them.
+// M and R.
 #[derive(Clone, Copy)]
 pub struct Sizes {
     pub nodes: u32,
     pub slots: u32,
-    pub at: usize,
 }
 
-// A step, and the position behind it.
+// The edges of a node, as a line of an export lists them.
 #[derive(Clone, Copy)]
-pub struct Form {
-    pub step: Step,
-    pub at: usize,
+pub struct Edges {
+    pub left: u32,
+    pub right: u32,
 }
 
-// A node and its edges, and the position behind them.
+// A node and its edges.
 #[derive(Clone, Copy)]
 pub struct Row {
     pub node: u32,
-    pub left: u32,
-    pub right: u32,
-    pub at: usize,
+    pub edges: Edges,
 }
 
-// What a line of an export says: the edges of the node that is due, or anything else.
-#[derive(Clone, Copy)]
-pub enum Listed {
-    Edges(u32, u32),
-    Stray,
-}
-
-// The byte at a position; 256 past the end.
-fn byte_at(line: &[u8], i: usize) -> u16
-    ensures { result ≡ byte_at line.now i }
+// The bytes that follow a word.
+fn after<'a>(line: &'a [u8], word: &[u8]) -> Option<&'a [u8]>
+    ensures { option_copied result ≡ after line.now word.now }
 {
-    if i < line.len() {
-        return line[i] as u16;
-    }
-    256
+    line.strip_prefix(word)
 }
 
-// The position behind a word that stands at i; LOST where it does not.
-fn after(line: &[u8], i: usize, word: &[u8]) -> usize
-    ensures { result ≡ after line.now i word.now }
-{
-    let mut at = i;
-    let mut k = 0;
-    while k < word.len() {
-        if byte_at(line, at) != word[k] as u16 {
-            return LOST;
-        }
-        at += 1;
-        k += 1;
-    }
-    at
-}
-
-fn is_digit(b: u16) -> bool
-    ensures { result ≡ is_digit b }
-{
-    if b < 48 {
-        return false;
-    }
-    b <= 57
-}
-
-fn digits_at(line: &[u8], i: usize) -> Number
-    ensures { result ≡ digits_at line.now 7 0 i }
+// Kept: no `parse`: a number ends at the first byte that is no digit, or after seven, and what
+// follows it is read on.
+fn digits_at(line: &[u8]) -> (u32, &[u8])
+    ensures { (result.0, result.1.now) ≡ digits_at line.now 7 0 }
 {
     let mut n: u32 = 0;
-    let mut at = i;
-    let mut more: u32 = DIGITS;
-    while 0 < more {
-        let b = byte_at(line, at);
-        if !is_digit(b) {
-            return Number { value: n, at };
-        }
-        n = n * 10 + (b - 48) as u32;
-        at += 1;
-        more -= 1;
-    }
-    Number { value: n, at }
-}
-
-fn number_at(line: &[u8], i: usize) -> Number
-    ensures { result ≡ number_at line.now i }
-{
-    let b = byte_at(line, i);
-    if !is_digit(b) {
-        return Number { value: 0, at: LOST };
-    }
-    if b == 48 {
-        return Number {
-            value: 0,
-            at: i + 1,
+    let mut rest = line;
+    for _ in 0..DIGITS {
+        let Some((b, tail)) = rest.split_first() else {
+            return (n, rest);
         };
+        if !b.is_ascii_digit() {
+            return (n, rest);
+        }
+        n = n * 10 + u32::from(*b - b'0');
+        rest = tail;
     }
-    digits_at(line, i)
+    (n, rest)
 }
 
-fn side_at(line: &[u8], i: usize) -> Side
-    ensures { result ≡ side_at line.now i }
+fn number_at(line: &[u8]) -> Option<(u32, &[u8])>
+    ensures { seen result ≡ number_at line.now }
 {
-    let b = byte_at(line, i);
-    if b == 76 {
-        return Side { side: 0, at: i + 1 };
+    let (b, rest) = line.split_first()?;
+    if !b.is_ascii_digit() {
+        return None;
     }
-    if b == 82 {
-        return Side { side: 1, at: i + 1 };
+    if *b == b'0' {
+        return Some((0, rest));
     }
-    Side { side: 0, at: LOST }
+    Some(digits_at(line))
 }
 
-fn letters_at(line: &[u8], i: usize) -> Turns
-    ensures { result ≡ letters_at line.now longest 0 0 1 i }
+fn side_at(line: &[u8]) -> Option<(u32, &[u8])>
+    ensures { seen result ≡ side_at line.now }
+{
+    let (b, rest) = line.split_first()?;
+    if *b == b'L' {
+        return Some((0, rest));
+    }
+    if *b == b'R' {
+        return Some((1, rest));
+    }
+    None
+}
+
+fn letters_at(line: &[u8]) -> (Turns, &[u8])
+    ensures { (result.0, result.1.now) ≡ letters_at line.now longest 0 0 1 }
 {
     let mut count: u32 = 0;
     let mut word: u32 = 0;
     let mut bit: u32 = 1;
-    let mut at = i;
-    let mut more = LETTERS;
-    while 0 < more {
-        let s = side_at(line, at);
-        if s.at == LOST {
-            return Turns { count, word, at };
-        }
+    let mut rest = line;
+    for _ in 0..LETTERS {
+        let Some((side, tail)) = side_at(rest) else {
+            return (Turns { count, word }, rest);
+        };
         count += 1;
-        word = (word + s.side * bit) % MANY_WORDS;
+        word = (word + side * bit) % MANY_WORDS;
         bit = bit * 2 % MANY_WORDS;
-        at = s.at;
-        more -= 1;
+        rest = tail;
     }
-    Turns { count, word, at }
+    (Turns { count, word }, rest)
 }
 
-fn turns_at(line: &[u8], i: usize) -> Turns
-    ensures { result ≡ turns_at line.now i }
+fn turns_at(line: &[u8]) -> Option<(Turns, &[u8])>
+    ensures { seen result ≡ turns_at line.now }
 {
-    if byte_at(line, i) == 45 {
-        return Turns {
-            count: 0,
-            word: 0,
-            at: i + 1,
-        };
+    let (b, rest) = line.split_first()?;
+    if *b == b'-' {
+        return Some((Turns { count: 0, word: 0 }, rest));
     }
-    let s = side_at(line, i);
-    if s.at == LOST {
-        return Turns {
-            count: 0,
-            word: 0,
-            at: LOST,
-        };
-    }
-    letters_at(line, i)
+    side_at(line)?;
+    Some(letters_at(line))
 }
 
-fn place_at(line: &[u8], i: usize, word: &[u8]) -> Spot
-    ensures { result ≡ place_at line.now i word.now }
+#[tactic(auto, unfolding(crate::specs::Grammar::place_at))]
+fn place_at<'a>(line: &'a [u8], word: &[u8]) -> Option<(Place, &'a [u8])>
+    ensures { seen result ≡ place_at line.now word.now }
 {
-    let slot = number_at(line, i);
-    let path = turns_at(line, after(line, slot.at, word));
-    Spot {
-        slot: slot.value,
-        count: path.count,
-        word: path.word,
-        at: path.at,
-    }
-}
-
-fn take_line(line: &[u8]) -> Form
-    ensures { result ≡ take_line line.now }
-{
-    let p = place_at(line, after(line, 0, b"op=take slot="), b" turns=");
-    let s = side_at(line, after(line, p.at, b" side="));
-    let step = Step {
-        kind: 0,
-        slot: p.slot,
-        count: p.count,
-        word: p.word,
-        side: s.side,
-        toslot: 0,
-        tocount: 0,
-        toword: 0,
+    let (slot, rest) = number_at(line)?;
+    let (turns, rest) = turns_at(after(rest, word)?)?;
+    let place = Place {
+        slot,
+        count: turns.count,
+        word: turns.word,
     };
-    Form { step, at: s.at }
+    Some((place, rest))
 }
 
-fn link_line(line: &[u8]) -> Form
-    ensures { result ≡ link_line line.now }
+// A step of a kind, with its two places and its side.
+fn step_of(kind: u32, p: Place, side: u32, q: Place) -> Step
+    ensures { result ≡ step_of kind p side q }
 {
-    let p = place_at(line, after(line, 0, b"op=link slot="), b" turns=");
-    let s = side_at(line, after(line, p.at, b" side="));
-    let q = place_at(line, after(line, s.at, b" toslot="), b" toturns=");
-    let step = Step {
-        kind: 1,
+    Step {
+        kind,
         slot: p.slot,
         count: p.count,
         word: p.word,
-        side: s.side,
+        side,
         toslot: q.slot,
         tocount: q.count,
         toword: q.word,
-    };
-    Form { step, at: q.at }
-}
-
-fn shade_line(line: &[u8]) -> Form
-    ensures { result ≡ shade_line line.now }
-{
-    let at = after(line, 0, b"op=shade");
-    let step = Step {
-        kind: 2,
-        slot: 0,
-        count: 0,
-        word: 0,
-        side: 0,
-        toslot: 0,
-        tocount: 0,
-        toword: 0,
-    };
-    Form { step, at }
-}
-
-fn look_line(line: &[u8]) -> Form
-    ensures { result ≡ look_line line.now }
-{
-    let p = place_at(line, after(line, 0, b"op=look slot="), b" turns=");
-    let step = Step {
-        kind: 4,
-        slot: p.slot,
-        count: p.count,
-        word: p.word,
-        side: 0,
-        toslot: 0,
-        tocount: 0,
-        toword: 0,
-    };
-    Form { step, at: p.at }
-}
-
-fn collect_line(line: &[u8]) -> Number
-    ensures { result ≡ collect_line line.now }
-{
-    number_at(line, after(line, 0, b"op=collect count="))
-}
-
-fn first_line(line: &[u8]) -> Sizes
-    ensures { result ≡ first_line line.now }
-{
-    let m = number_at(line, after(line, 0, b"nodes="));
-    let r = number_at(line, after(line, m.at, b" slots="));
-    Sizes {
-        nodes: m.value,
-        slots: r.value,
-        at: r.at,
     }
+}
+
+#[tactic(auto, unfolding(crate::specs::Grammar::take_line))]
+fn take_line(line: &[u8]) -> Option<(Step, &[u8])>
+    ensures { seen result ≡ take_line line.now }
+{
+    let (place, rest) = place_at(after(line, b"op=take slot=")?, b" turns=")?;
+    let (side, rest) = side_at(after(rest, b" side=")?)?;
+    Some((step_of(0, place, side, UNREAD), rest))
+}
+
+#[tactic(auto, unfolding(crate::specs::Grammar::link_line))]
+fn link_line(line: &[u8]) -> Option<(Step, &[u8])>
+    ensures { seen result ≡ link_line line.now }
+{
+    let (source, rest) = place_at(after(line, b"op=link slot=")?, b" turns=")?;
+    let (side, rest) = side_at(after(rest, b" side=")?)?;
+    let (target, rest) = place_at(after(rest, b" toslot=")?, b" toturns=")?;
+    Some((step_of(1, source, side, target), rest))
+}
+
+#[tactic(auto, unfolding(crate::specs::Grammar::shade_line))]
+fn shade_line(line: &[u8]) -> Option<(Step, &[u8])>
+    ensures { seen result ≡ shade_line line.now }
+{
+    let rest = after(line, b"op=shade")?;
+    Some((step_of(2, UNREAD, 0, UNREAD), rest))
+}
+
+#[tactic(auto, unfolding(crate::specs::Grammar::look_line))]
+fn look_line(line: &[u8]) -> Option<(Step, &[u8])>
+    ensures { seen result ≡ look_line line.now }
+{
+    let (place, rest) = place_at(after(line, b"op=look slot=")?, b" turns=")?;
+    Some((step_of(4, place, 0, UNREAD), rest))
+}
+
+#[tactic(auto, unfolding(crate::specs::Grammar::collect_line))]
+fn collect_line(line: &[u8]) -> Option<(u32, &[u8])>
+    ensures { seen result ≡ collect_line line.now }
+{
+    number_at(after(line, b"op=collect count=")?)
+}
+
+#[tactic(auto, unfolding(crate::specs::Grammar::first_line))]
+fn first_line(line: &[u8]) -> Option<(Sizes, &[u8])>
+    ensures { seen result ≡ first_line line.now }
+{
+    let (nodes, rest) = number_at(after(line, b"nodes=")?)?;
+    let (slots, rest) = number_at(after(rest, b" slots=")?)?;
+    Some((Sizes { nodes, slots }, rest))
+}
+
+#[tactic(auto, unfolding(crate::specs::Grammar::entry_line))]
+fn entry_line(line: &[u8]) -> Option<(Row, &[u8])>
+    ensures { seen result ≡ entry_line line.now }
+{
+    let (node, rest) = number_at(after(line, b"node=")?)?;
+    let (left, rest) = number_at(after(rest, b" left=")?)?;
+    let (right, rest) = number_at(after(rest, b" right=")?)?;
+    let edges = Edges { left, right };
+    Some((Row { node, edges }, rest))
 }
 
 fn counted(n: u32) -> Said
     ensures { result ≡ counted n }
 {
     if n <= COUNT {
-        return Said::Collect(n);
+        Said::Collect(n)
+    } else {
+        Said::Unreadable
     }
-    Said::Unreadable
+}
+
+// What stands there, where nothing follows it.
+fn whole<T: Copy>(found: Option<(T, &[u8])>) -> Option<T>
+    ensures { result ≡ whole (seen found.entry) }
+{
+    let (x, rest) = found?;
+    if rest.is_empty() { Some(x) } else { None }
 }
 
 // What a line says; a line over 80 bytes is unreadable.
 pub fn read(line: &[u8]) -> Said
     ensures { result ≡ read line.now }
 {
-    let end = line.len();
-    if LONGEST < end {
+    if LONGEST < line.len() {
         return Said::Unreadable;
     }
-    let take = take_line(line);
-    if take.at == end {
-        let step = take.step;
+    if let Some(step) = whole(take_line(line)) {
         return Said::Do(step);
     }
-    let link = link_line(line);
-    if link.at == end {
-        let step = link.step;
+    if let Some(step) = whole(link_line(line)) {
         return Said::Do(step);
     }
-    let shade = shade_line(line);
-    if shade.at == end {
-        let step = shade.step;
+    if let Some(step) = whole(shade_line(line)) {
         return Said::Do(step);
     }
-    let look = look_line(line);
-    if look.at == end {
-        let step = look.step;
+    if let Some(step) = whole(look_line(line)) {
         return Said::Do(step);
     }
-    let collect = collect_line(line);
-    if collect.at == end {
-        return counted(collect.value);
+    if let Some(n) = whole(collect_line(line)) {
+        return counted(n);
     }
-    let first = first_line(line);
-    if first.at == end {
-        return Said::First(first.nodes, first.slots);
+    if let Some(sizes) = whole(first_line(line)) {
+        return Said::First(sizes.nodes, sizes.slots);
     }
     Said::Unreadable
 }
 
 // Whether a line begins an export, well formed or not.
+#[tactic(auto, unfolding(crate::specs::Grammar::is_export))]
 pub fn is_export(line: &[u8]) -> bool
     ensures { result ≡ is_export line.now }
 {
-    after(line, 0, b"node=") < LOST
+    after(line, b"node=").is_some()
 }
 
-fn entry_line(line: &[u8]) -> Row
-    ensures { result ≡ entry_line line.now }
-{
-    let n = number_at(line, after(line, 0, b"node="));
-    let l = number_at(line, after(line, n.at, b" left="));
-    let r = number_at(line, after(line, l.at, b" right="));
-    Row {
-        node: n.value,
-        left: l.value,
-        right: r.value,
-        at: r.at,
-    }
-}
-
-// What the line of an export says where the edges of node n are due.
-pub fn entry(line: &[u8], n: usize) -> Listed
+// The edges in the line of an export where those of node n are due; None of any other line.
+pub fn entry(line: &[u8], n: usize) -> Option<Edges>
     ensures { result ≡ entry line.now n }
 {
-    let end = line.len();
-    if LONGEST < end {
-        return Listed::Stray;
+    if LONGEST < line.len() {
+        return None;
     }
-    let e = entry_line(line);
-    if e.at != end {
-        return Listed::Stray;
+    let row = whole(entry_line(line))?;
+    // Kept: the library has no `From<u32>` for `usize`.
+    if row.node as usize == n {
+        Some(row.edges)
+    } else {
+        None
     }
-    let node = e.node;
-    if node as usize != n {
-        return Listed::Stray;
-    }
-    Listed::Edges(e.left, e.right)
 }
+
+// Kept: C lends the output with a fixed length (`jenturik_turn`); what is used goes by value.
 
 // One byte more of the output, where there is room; answers how much is used.
 pub fn put(out: &mut [u8], used: usize, b: u8) -> usize
@@ -424,43 +328,21 @@ pub fn put(out: &mut [u8], used: usize, b: u8) -> usize
     used
 }
 
-// Bytes more of the output, which has room for all of them.
-fn put_whole(out: &mut [u8], used: usize, word: &[u8])
-    requires { used + length word.now ≤ length out.old }
-    ensures { written out.new (used + length word.now)
-        ≡ put_all (written out.old used) word.now }
-{
-    let mut k = 0;
-    while k < word.len() {
-        out[used + k] = word[k];
-        k += 1;
-    }
-}
-
-// Bytes more of the output, one by one, as far as there is room; answers how much is used.
-fn put_part(out: &mut [u8], used: usize, word: &[u8]) -> usize
-    ensures { written out.new result ≡ put_all (written out.old used) word.now }
-{
-    let mut at = used;
-    let mut k = 0;
-    while k < word.len() {
-        at = put(out, at, word[k]);
-        k += 1;
-    }
-    at
-}
-
 // Bytes more of the output, as far as there is room; answers how much is used.
 pub fn put_all(out: &mut [u8], used: usize, word: &[u8]) -> usize
     ensures { written out.new result ≡ put_all (written out.old used) word.now }
 {
     if out.len() < used {
-        return put_part(out, used, word);
+        return used;
     }
-    if out.len() - used < word.len() {
-        return put_part(out, used, word);
+    // Kept: two copies; tried: one of `usize::min(room, word.len())` bytes takes the program 17 to
+    // 21 % longer.
+    let room = out.len() - used;
+    if room < word.len() {
+        out[used..used + room].copy_from_slice(&word[..room]);
+        return used + room;
     }
-    put_whole(out, used, word);
+    out[used..used + word.len()].copy_from_slice(word);
     used + word.len()
 }
 
@@ -471,27 +353,29 @@ fn digit(out: &mut [u8], used: usize, n: u16, ten: u16) -> usize
     if n < ten {
         return used;
     }
-    put(out, used, 48 + (n / ten % 10) as u8)
+    put(out, used, b'0' + (n / ten % 10) as u8)
 }
 
 fn decimal(out: &mut [u8], used: usize, n: u16) -> usize
     ensures { written out.new result ≡ put_all (written out.old used) (decimal n) }
 {
+    // Kept: a loop over the four powers has as many lines, and an invariant besides.
     let a = digit(out, used, n, 10000);
     let b = digit(out, a, n, 1000);
     let c = digit(out, b, n, 100);
     let d = digit(out, c, n, 10);
-    put(out, d, 48 + (n % 10) as u8)
+    put(out, d, b'0' + (n % 10) as u8)
 }
 
 // Puts an answer's line behind the bytes of the output that are used, as far as there is room;
 // answers how many are used then.
+// Kept: no Display: the clause has each byte (said), also where the output has no room for all.
 pub fn say(out: &mut [u8], used: usize, code: u8, node: u16) -> usize
     ensures { written out.new result ≡ put_all (written out.old used) (said code node) }
 {
     let a = put_all(out, used, b"code=");
-    let b = decimal(out, a, code as u16);
+    let b = decimal(out, a, u16::from(code));
     let c = put_all(out, b, b" node=");
     let d = decimal(out, c, node);
-    put(out, d, 10)
+    put(out, d, b'\n')
 }

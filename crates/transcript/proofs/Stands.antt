@@ -1,6 +1,6 @@
 -- Where a session stands, line by line: what the code leaves is what the bytes make of it.
 use Prim.Native.Nat.{ℕ, suc, ◌+◌, ◌-◌, ◌<◌, ◌≤◌}
-use mathlib.Core.Bool.{Bool, true, false, true≢false}
+use mathlib.Core.Bool.{true, false}
 use mathlib.Core.Path.{◌≡◌, refl, sym, ap, ◌∙◌}
 use mathlib.Core.List.{List, [], ◌∷◌}
 use native.Mathlib.Omega.{arith}
@@ -11,22 +11,19 @@ use lib.Dec.{eqb}
 use Rattle.base.specs.Choice.{pick}
 use Rattle.base.proofs.Tests.{pick_yes, pick_no, eq_yes}
 use Rattle.text.specs.Grammar.{is_export, entry}
-use Rattle.text.specs.Answers.{Written, written, contents, put_all}
-use Rattle.text.specs.declared.Listed.{Listed}
-use Rattle.text.specs.declared.Listed.TheVariants.{Edges, Stray}
-use Rattle.session.specs.Feeding.{newline, fold, Going, gathered, ended, newline_from, Stand}
+use Rattle.text.specs.Answers.{Written, written, put_all}
+use Rattle.std.specs.Prelude.{Option, Some, None}
+use Rattle.text.specs.declared.Edges.{Edges}
+use Rattle.session.specs.Feeding.{newline, fold, Going, gathered, newline_from, Stand}
 use Rattle.session.specs.Feeding.{standing, moved, turned, begun, stopped, filled, noting}
 use Rattle.session.specs.Feeding.{line_ended, is_over, eaten, eats, emptied, block, bare, closed}
 use Rattle.session.specs.Feeding.{finish}
 use Rattle.session.specs.declared.Run.{Run}
 use Rattle.session.specs.declared.Stage.{Stage}
 use Rattle.session.specs.declared.Stage.TheVariants.{Opening, Second, Loading, Serving}
-use Rattle.session.specs.declared.Stage.TheVariants.{Over, Stopped}
 use Rattle.session.proofs.Feeds.{to_end, found}
 use Rattle.session.proofs.Stands.{over}
-use Rattle.transcript.specs.Leads.{Leads, form_of}
-use Rattle.transcript.specs.declared.Form.{Form}
-use Rattle.transcript.specs.declared.Form.TheVariants.{First, Entry, Step, Unread}
+use Rattle.transcript.specs.Leads.{Leads}
 
 -- nothing is left of the input
 none_left : (input : List ℕ) (s : Stand) → s ≡ fold eats (drop (length input) input) s
@@ -40,84 +37,17 @@ leads_all : (i : ℕ) (input : List ℕ) (s t : Stand) → i < length input
 leads_all i input s t h e = record { gains = h; same = sym e ∙ none_left input t }
 
 -- what an export's line does is the same in each stage
-same_noting : (m n : ℕ) (x : Listed) (st st' : Stage) (s : Stand)
+same_noting : (m n : ℕ) (x : Option Edges) (st st' : Stage) (s : Stand)
     → noting m n x (moved st s.going s) ≡ noting m n x (moved st' s.going s)
 unfolding noting filled stopped
-same_noting m n (Edges a b) st st' s = refl
-same_noting m n Stray st st' s = refl
+same_noting m n (Some e) st st' s = refl
+same_noting m n None st st' s = refl
 
 newline_eaten : (s : Stand) (b : ℕ) → b ≡ newline → is_over s.stage ≡ false
     → line_ended s.stage s ≡ eats s b
 unfolding eaten
 newline_eaten s b z q =
     pick_no _ _ _ _ (sym q) (pick_yes _ _ _ _ (eq_yes b newline z) refl)
-
--- what a line of each form does
-unfoldable does : Form → Stand → Stand
-does First s = begun s
-does (Entry m n) s = noting m n (entry (contents s.going.line) n) s
-does (Step m) s = moved (Serving m) (ended s.going) s
-does Unread s = s
-
--- where the lines stand before one of this form
-unfoldable before : Form → Stage
-before First = Opening
-before (Entry m n) = Serving m
-before (Step m) = Serving m
-before Unread = Over
-
--- the line at hand does what its form says, and a run that is over reads none
-module _ (g : Run) (l k c ls rs line out : List ℕ) where
-  abbrev at : Stage → Stand
-  at st = standing st g l k c ls rs line out
-
-  abbrev form : Stage → Form
-  form st = form_of st (take g.at line)
-
-  form_does : (st : Stage) → is_over st ≡ false
-      → line_ended st (at st) ≡ does (form st) (at (before (form st)))
-  unfolding line_ended standing form_of does before pick
-  form_does Opening q = refl
-  form_does (Second m) q = go (is_export (take g.at line)) refl
-    where
-      go : (z : Bool) → is_export (take g.at line) ≡ z
-          → line_ended (Second m) (at (Second m))
-          ≡ does (pick z (Entry m 0) (Step m)) (at (before (pick z (Entry m 0) (Step m))))
-      go true e = rw e (same_noting m 0 _ (Second m) (Serving m) (at (Second m)))
-      go false e = rw e
-  form_does (Loading m n) q = same_noting m n _ (Loading m n) (Serving m) (at (Loading m n))
-  form_does (Serving m) q = refl
-  form_does Over q = absurd (true≢false q)
-  form_does (Stopped m) q = absurd (true≢false q)
-
--- whether a line of this form is read
-unfoldable is_read : Form → Bool
-is_read First = true
-is_read (Entry m n) = true
-is_read (Step m) = true
-is_read Unread = false
-
-form_live : (st : Stage) (w : List ℕ) → is_read (form_of st w) ≡ true → is_over st ≡ false
-unfolding form_of is_read
-form_live Opening w q = refl
-form_live (Second m) w q = refl
-form_live (Loading m n) w q = refl
-form_live (Serving m) w q = refl
-form_live Over w q = sym q
-form_live (Stopped m) w q = sym q
-
-form_over : (st : Stage) (w : List ℕ) → is_read (form_of st w) ≡ false → is_over st ≡ true
-unfolding form_of is_read pick
-form_over Opening w q = sym q
-form_over (Second m) w q = go (is_export w) q
-  where
-    go : (z : Bool) → is_read (pick z (Entry m 0) (Step m)) ≡ false → false ≡ true
-    go true q = sym q
-    go false q = sym q
-form_over (Loading m n) w q = sym q
-form_over (Serving m) w q = sym q
-form_over Over w q = refl
-form_over (Stopped m) w q = refl
 
 -- a newline stands at position i
 module _ (i : ℕ) (input : List ℕ) (h : i < length input) (z : get_or input i 0 ≡ 10) where
@@ -129,52 +59,61 @@ module _ (i : ℕ) (input : List ℕ) (h : i < length input) (z : get_or input i
       ∙ ap (fold eats (drop (suc i) input)) (sym (newline_eaten s (get_or input i 0) z q))
       ∙ ap (λ (j : ℕ). fold eats (drop j input) (line_ended s.stage s)) (sym (add-one i))
 
-  module _ (st : Stage) (g : Run) (l k c ls rs line out : List ℕ) (t : Stand) where
-    live_newline : is_over st ≡ false
-        → fold eats (drop i input) (standing st g l k c ls rs line out)
-        ≡ fold eats (drop (i + 1) input) (line_ended st (standing st g l k c ls rs line out))
-    unfolding standing
-    live_newline live = at_newline (standing st g l k c ls rs line out) live
+  module _ (g : Run) (l k c ls rs line out : List ℕ) (t : Stand) where
+    abbrev at : Stage → Stand
+    at st = standing st g l k c ls rs line out
 
-    -- a line of the form f is at its end
-    ended_by : (f : Form) → f ≡ form_of st (take g.at line) → is_read f ≡ true
-        → fold eats (drop i input) (standing st g l k c ls rs line out)
-        ≡ fold eats (drop (i + 1) input) (does f (standing (before f) g l k c ls rs line out))
-    ended_by f p q =
-        let live = form_live st (take g.at line) (ap is_read (sym p) ∙ q) in
-        rw p (live_newline live
-        ∙ ap (fold eats (drop (i + 1) input)) (form_does g l k c ls rs line out st live))
+    -- a line is at its end, where the run is not over
+    leads_ended : (st : Stage) → is_over st ≡ false → t ≡ line_ended st (at st)
+        → Leads i (i + 1) input (at st) t
+    unfolding standing
+    leads_ended st q e = record {
+      gains = omega arith;
+      same =
+          at_newline (standing st g l k c ls rs line out) q
+          ∙ ap (fold eats (drop (i + 1) input)) (sym e);
+    }
 
     -- the first line
-    pub leads_first : First ≡ form_of st (take g.at line)
-        → t ≡ begun (standing Opening g l k c ls rs line out)
-        → Leads i (i + 1) input (standing st g l k c ls rs line out) t
-    unfolding does before is_read
-    leads_first p e = record {
-      gains = omega arith;
-      same = ended_by First p refl ∙ ap (fold eats (drop (i + 1) input)) (sym e);
-    }
+    pub leads_first : t ≡ begun (at Opening) → Leads i (i + 1) input (at Opening) t
+    unfolding line_ended
+    leads_first e = leads_ended Opening refl e
+
+    -- the first line of an export
+    pub leads_export : (m : ℕ) → true ≡ is_export (take g.at line)
+        → t ≡ noting m 0 (entry (take g.at line) 0) (at (Serving m))
+        → Leads i (i + 1) input (at (Second m)) t
+    unfolding line_ended standing pick
+    leads_export m q e =
+        leads_ended (Second m) refl
+        (rw (← q) (e ∙ same_noting m 0 _ (Serving m) (Second m) (at (Serving m))))
 
     -- line n of an export
-    pub leads_entry : (m n : ℕ) → Entry m n ≡ form_of st (take g.at line)
-        → t ≡ noting m n (entry (take g.at line) n)
-        (standing (Serving m) g l k c ls rs line out)
-        → Leads i (i + 1) input (standing st g l k c ls rs line out) t
-    unfolding does before is_read standing
-    leads_entry m n p e = record {
-      gains = omega arith;
-      same = ended_by (Entry m n) p refl ∙ ap (fold eats (drop (i + 1) input)) (sym e);
-    }
+    pub leads_entry : (m n : ℕ)
+        → t ≡ noting m n (entry (take g.at line) n) (at (Serving m))
+        → Leads i (i + 1) input (at (Loading m n)) t
+    unfolding line_ended standing
+    leads_entry m n e =
+        leads_ended (Loading m n) refl
+        (e ∙ same_noting m n _ (Serving m) (Loading m n) (at (Serving m)))
 
-    -- a step: the table is served from here on
-    pub leads_step : (m : ℕ) → Step m ≡ form_of st (take g.at line)
-        → t ≡ fold eats (drop i input) (standing (Serving m) g l k c ls rs line out)
-        → Leads i (length input) input (standing st g l k c ls rs line out) t
-    unfolding does before is_read standing line_ended
-    leads_step m p e =
+    -- steps: the table is served from here on
+    pub leads_served : (m : ℕ) → t ≡ fold eats (drop i input) (at (Serving m))
+        → Leads i (length input) input (at (Serving m)) t
+    leads_served m e = leads_all i input (at (Serving m)) t h e
+
+    -- the first step
+    pub leads_step : (m : ℕ) → false ≡ is_export (take g.at line)
+        → t ≡ fold eats (drop i input) (at (Serving m))
+        → Leads i (length input) input (at (Second m)) t
+    unfolding line_ended standing pick
+    leads_step m q e =
+        let same : line_ended (Serving m) (standing (Serving m) g l k c ls rs line out)
+        ≡ line_ended (Second m) (standing (Second m) g l k c ls rs line out) = rw (← q) in
         leads_all i input _ t h
         (e ∙ at_newline (standing (Serving m) g l k c ls rs line out) refl
-        ∙ sym (ended_by (Step m) p refl))
+        ∙ ap (fold eats (drop (i + 1) input)) same
+        ∙ sym (at_newline (standing (Second m) g l k c ls rs line out) refl))
 
 -- the run is over
 pub leads_over : (i : ℕ) (input : List ℕ) (st : Stage) (g : Run) (l k c ls rs line out : List ℕ)
@@ -185,16 +124,6 @@ unfolding standing
 leads_over i input st g l k c ls rs line out h q =
     let s = standing st g l k c ls rs line out in
     leads_all i input s s h (over (drop i input) s (sym q))
-
-pub leads_unread : (i : ℕ) (input : List ℕ) (st : Stage) (g : Run)
-    (l k c ls rs line out : List ℕ)
-    → i < length input → Unread ≡ form_of st (take g.at line)
-    → Leads i (length input) input (standing st g l k c ls rs line out)
-    (standing st g l k c ls rs line out)
-unfolding is_read
-leads_unread i input st g l k c ls rs line out h q =
-    leads_over i input st g l k c ls rs line out h
-    (sym (form_over st (take g.at line) (ap is_read (sym q))))
 
 gathers : (s : Stand) → is_over s.stage ≡ false → (g : Going) (b : ℕ) → eqb b newline ≡ false
     → eats (turned s g) b ≡ turned s (gathered g (b ∷ []))

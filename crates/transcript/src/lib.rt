@@ -2,135 +2,95 @@
 // block makes of where the run stands is defined in crate session.
 #![tactic(auto)]
 
-ghost use Rattle.std.specs.Prelude.{◌≡◌, List, ℕ, ◌<◌, length, get_or, take};
-ghost use Rattle.session.specs.Feeding.{stand, emptied, block, bare, closed, finish, turn};
+ghost use Rattle.std.specs.Prelude.{◌≡◌, List, ℕ, ◌<◌, length, get_or, take, drop};
+ghost use Rattle.text.specs.Grammar.{entry};
+ghost use Rattle.session.specs.Feeding.{fold, eats, noting, standing_in, stand, stand_in};
+ghost use Rattle.session.specs.Feeding.{SameSlices};
+ghost use Rattle.session.specs.Feeding.{emptied, block, bare, closed, finish, turn};
 ghost use Rattle.session.specs.Feeding.{is_over, is_stopped, started};
-ghost use Rattle.transcript.specs.Leads.{Leads, form_of};
+ghost use Rattle.transcript.specs.Leads.{Leads};
 
 use rules::Record;
-use session::{Run, Session, Stage};
+use session::{Buffers, Run, Session, Stage};
 
 // The bytes of a line that are kept: one more than a line may have.
 pub const LINE: usize = 81;
 
-// The position of the next byte, and where the session stands then.
-#[derive(Clone, Copy)]
-pub struct Led {
-    pub next: usize,
-    pub s: Session,
-}
-
-// What the line at hand is: the first, line n of an export of a table of m entries, a step of such
-// a table, or none that is read.
-#[derive(Clone, Copy)]
-pub enum Form {
-    First,
-    Entry(usize, usize),
-    Step(usize),
-    Unread,
-}
-
-// What the line at hand is, of which so many bytes are used: the line after the first begins an
-// export, or is a step.
-fn form_of(stage: Stage, line: &[u8], at: usize) -> Form
-    ensures { result ≡ form_of stage (take at line.now) }
+// Line n of an export is at its end.
+fn load_line(b: &mut Buffers<'_>, g: Run, m: usize, n: usize) -> Session
+    ensures same { SameSlices b.old b.new }
+    ensures stands { stand_in result b.new ≡ noting m n (entry (take g.at b.old.line.now) n)
+        (standing_in (Stage.Serving m) g b.old) }
 {
-    match stage {
-        Stage::Opening => Form::First,
-        Stage::Second(m) => {
-            if export::is_export(line, at) {
-                return Form::Entry(m, 0);
-            }
-            Form::Step(m)
-        }
-        Stage::Loading(m, n) => Form::Entry(m, n),
-        Stage::Serving(m) => Form::Step(m),
-        Stage::Over => Form::Unread,
-        Stage::Stopped(_) => Form::Unread,
-    }
+    let line = &mut *b.line;
+    export::load_line(
+        b.left, b.right, b.colour, b.lefts, b.rights, line, b.out, g, m, n,
+    )
 }
 
-// The line at hand is at its end, at position i.
-fn end_line(
-    left: &mut [u16],
-    right: &mut [u16],
-    colour: &mut [u8],
-    lefts: &mut [u32],
-    rights: &mut [u32],
-    line: &mut [u8],
-    out: &mut [u8],
-    s: Session,
-    input: &[u8],
-    i: usize,
-) -> Led
+// Steps are served, from the newline at position i on up to the block's end.
+fn serve(b: &mut Buffers<'_>, g: Run, m: usize, input: &[u8], i: usize) -> Session
+    ensures same { SameSlices b.old b.new }
+    ensures stands { stand_in result b.new
+        ≡ fold eats (drop i input.now) (standing_in (Stage.Serving m) g b.old) }
+{
+    serving::serve(b.left, b.right, b.colour, b.line, b.out, g, m, input, i)
+}
+
+// The line at hand is at its end, at position i: the line after the first begins an export, or is
+// the first step, and steps are served up to the block's end. The position of the next byte.
+fn end_line(b: &mut Buffers<'_>, s: &mut Session, input: &[u8], i: usize) -> usize
     requires i_in_bounds { i < length input.now }
     requires i_value { get_or input.now i 0 ≡ 10 }
-    ensures { Leads i result.next input.now
-        (stand s left.old right.old colour.old lefts.old rights.old line.old out.old)
-        (stand result.s left.new right.new colour.new lefts.new rights.new line.new out.new) }
+    ensures same { SameSlices b.old b.new }
+    ensures leads { Leads i result input.now (stand_in s.old b.old) (stand_in s.new b.new) }
 {
-    let stage = s.stage;
     let g = s.run;
-    let form = form_of(stage, line, g.at);
-    match form {
-        Form::First => Led {
-            next: i + 1,
-            s: serving::begin(left, right, colour, line, out, g),
-        },
-        Form::Entry(m, n) => Led {
-            next: i + 1,
-            s: export::load_line(left, right, colour, lefts, rights, line, out, g, m, n),
-        },
-        Form::Step(m) => Led {
-            next: input.len(),
-            s: serving::serve(left, right, colour, line, out, g, m, input, i),
-        },
-        Form::Unread => Led {
-            next: input.len(),
-            s,
-        },
+    match s.stage {
+        Stage::Opening => {
+            let line = &mut *b.line;
+            *s = serving::begin(b.left, b.right, b.colour, line, b.out, g);
+            i + 1
+        }
+        Stage::Second(m) => {
+            let line = &mut *b.line;
+            if export::is_export(line, g.at) {
+                *s = load_line(b, g, m, 0);
+                i + 1
+            } else {
+                *s = serve(b, g, m, input, i);
+                input.len()
+            }
+        }
+        Stage::Loading(m, n) => {
+            *s = load_line(b, g, m, n);
+            i + 1
+        }
+        Stage::Serving(m) => {
+            *s = serve(b, g, m, input, i);
+            input.len()
+        }
+        Stage::Over | Stage::Stopped(_) => input.len(),
     }
 }
 
-// The bytes from position i on up to a newline, and what follows from it; or all that are left.
-fn lead(
-    left: &mut [u16],
-    right: &mut [u16],
-    colour: &mut [u8],
-    lefts: &mut [u32],
-    rights: &mut [u32],
-    line: &mut [u8],
-    out: &mut [u8],
-    s: Session,
-    input: &[u8],
-    i: usize,
-) -> Led
+// The bytes from position i on up to a newline, and what follows from it, or all that are left; the
+// position of the next byte.
+fn lead(b: &mut Buffers<'_>, s: &mut Session, input: &[u8], i: usize) -> usize
     requires { i < length input.now }
-    ensures { Leads i result.next input.now
-        (stand s left.old right.old colour.old lefts.old rights.old line.old out.old)
-        (stand result.s left.new right.new colour.new lefts.new rights.new line.new out.new) }
+    ensures same { SameSlices b.old b.new }
+    ensures leads { Leads i result input.now (stand_in s.old b.old) (stand_in s.new b.new) }
 {
-    if is_over(s) {
-        return Led {
-            next: input.len(),
-            s,
-        };
+    if is_over(*s) {
+        return input.len();
     }
-    let g = s.run;
     let end = session::newline_from(input, i);
-    let at = text::put_all(line, g.at, &input[i..end]);
-    let rec = g.rec;
-    let run = Run {
-        rec,
-        at,
-        used: g.used,
-    };
-    let stage = s.stage;
-    let t = Session { stage, run };
+    let bytes = &input[i..end];
+    s.run.at = text::put_all(b.line, s.run.at, bytes);
     if end < input.len() {
-        return end_line(left, right, colour, lefts, rights, line, out, t, input, end);
+        return end_line(b, s, input, end);
     }
-    Led { next: end, s: t }
+    end
 }
 
 // The output is empty again.
@@ -138,60 +98,102 @@ fn emptied(s: Session) -> Session
     ensures { (l r c ls rs line out : List ℕ) → stand result l r c ls rs line out
         ≡ emptied (stand s l r c ls rs line out) }
 {
-    let g = s.run;
-    let rec = g.rec;
-    let stage = s.stage;
-    let run = Run {
-        rec,
-        at: g.at,
-        used: 0,
-    };
-    Session { stage, run }
+    Session {
+        run: Run { used: 0, ..s.run },
+        ..s
+    }
 }
 
 // Before the first byte.
 pub fn start() -> Session
     ensures { result ≡ started }
 {
-    let rec = Record::fresh(0, 0, 0, 0);
-    let run = Run {
-        rec,
-        at: 0,
-        used: 0,
-    };
-    let stage = Stage::Opening;
-    Session { stage, run }
+    Session {
+        stage: Stage::Opening,
+        run: Run {
+            rec: Record::fresh(0, 0, 0, 0),
+            at: 0,
+            used: 0,
+        },
+    }
 }
 
 // Whether the run is over: the first line was refused, or the export.
 pub fn is_over(s: Session) -> bool
     ensures { result ≡ is_over s.stage }
 {
-    let stage = s.stage;
-    match stage {
-        Stage::Opening => false,
-        Stage::Second(_) => false,
-        Stage::Loading(_, _) => false,
-        Stage::Serving(_) => false,
-        Stage::Over => true,
-        Stage::Stopped(_) => true,
-    }
+    matches!(s.stage, Stage::Over | Stage::Stopped(_))
 }
 
 // Whether the run is over since the export was refused.
 pub fn is_stopped(s: Session) -> bool
     ensures { result ≡ is_stopped s.stage }
 {
-    let stage = s.stage;
-    match stage {
+    matches!(s.stage, Stage::Stopped(_))
+}
+
+// A block of the input, in the buffers that are lent.
+fn feed(b: &mut Buffers<'_>, s: Session, input: &[u8]) -> Session
+    ensures same { SameSlices b.old b.new }
+    ensures stands { stand_in result b.new ≡ block input.now (stand_in s b.old) }
+{
+    let mut t = emptied(s);
+    let mut next = 0;
+    // Kept: a turn takes a line, or the steps up to the block's end, so no range counts the turns.
+    while next < input.len() {
+        next = lead(b, &mut t, input, next);
+    }
+    t
+}
+
+// Whether no line is at hand; the first one is, even where it has no byte.
+fn bare(s: Session) -> bool
+    ensures { result ≡ bare s.stage s.run.at }
+{
+    match s.stage {
         Stage::Opening => false,
-        Stage::Second(_) => false,
-        Stage::Loading(_, _) => false,
-        Stage::Serving(_) => false,
-        Stage::Over => false,
-        Stage::Stopped(_) => true,
+        Stage::Over | Stage::Stopped(_) => true,
+        _ => s.run.at == 0,
     }
 }
+
+// The input is at its end: an export that is not ends the run.
+fn closed(out: &mut [u8], s: Session) -> Session
+    ensures { (l r c ls rs line : List ℕ) → stand result l r c ls rs line out.new
+        ≡ closed s.stage (stand s l r c ls rs line out.old) }
+{
+    match s.stage {
+        Stage::Loading(m, _) => export::stop(out, s.run, m),
+        _ => s,
+    }
+}
+
+// The end of the input, in the buffers that are lent: the last line may lack its newline.
+fn end_input(b: &mut Buffers<'_>, s: Session) -> Session
+    ensures same { SameSlices b.old b.new }
+    ensures stands { stand_in result b.new ≡ finish (stand_in s b.old) }
+{
+    if bare(s) {
+        return closed(b.out, emptied(s));
+    }
+    let t = feed(b, s, b"\n");
+    closed(b.out, t)
+}
+
+// What a read delivered: n bytes of the input, or none, which is its end.
+pub fn turn_in(b: &mut Buffers<'_>, s: Session, input: &[u8], n: usize) -> Session
+    ensures same { SameSlices b.old b.new }
+    ensures stands { stand_in result b.new ≡ turn n input.now (stand_in s b.old) }
+{
+    if n == 0 {
+        return end_input(b, s);
+    }
+    let end = n.min(input.len());
+    feed(b, s, &input[..end])
+}
+
+// Kept: the buffers one by one in the three calls below, whose promises are read slice by slice by
+// `block_determined`, `finish_determined` and `turn_determined` in crate whole.
 
 // A block of the input: what it prints is put into the output, from its start, as far as there is
 // room.
@@ -210,49 +212,16 @@ pub fn block(
         out.new ≡ block input.now (stand s left.old right.old colour.old lefts.old
         rights.old line.old out.old) }
 {
-    let mut t = emptied(s);
-    let mut next = 0;
-    while next < input.len() {
-        let led = lead(
-            left, right, colour, lefts, rights, line, out, t, input, next,
-        );
-        t = led.s;
-        next = led.next;
-    }
-    t
-}
-
-// Whether no line is at hand; the first one is, even where it has no byte.
-fn bare(s: Session) -> bool
-    ensures { result ≡ bare s.stage s.run.at }
-{
-    let run = s.run;
-    let stage = s.stage;
-    match stage {
-        Stage::Opening => false,
-        Stage::Second(_) => run.at == 0,
-        Stage::Loading(_, _) => run.at == 0,
-        Stage::Serving(_) => run.at == 0,
-        Stage::Over => true,
-        Stage::Stopped(_) => true,
-    }
-}
-
-// The input is at its end: an export that is not ends the run.
-fn closed(out: &mut [u8], s: Session) -> Session
-    ensures { (l r c ls rs line : List ℕ) → stand result l r c ls rs line out.new
-        ≡ closed s.stage (stand s l r c ls rs line out.old) }
-{
-    let run = s.run;
-    let stage = s.stage;
-    match stage {
-        Stage::Opening => s,
-        Stage::Second(_) => s,
-        Stage::Loading(m, _) => export::stop(out, run, m),
-        Stage::Serving(_) => s,
-        Stage::Over => s,
-        Stage::Stopped(_) => s,
-    }
+    let mut b = Buffers {
+        left,
+        right,
+        colour,
+        lefts,
+        rights,
+        line,
+        out,
+    };
+    feed(&mut b, s, input)
 }
 
 // The end of the input: the last line may lack its newline.
@@ -270,11 +239,16 @@ pub fn finish(
         out.new ≡ finish (stand s left.old right.old colour.old lefts.old rights.old
         line.old out.old) }
 {
-    if bare(s) {
-        return closed(out, emptied(s));
-    }
-    let t = block(left, right, colour, lefts, rights, line, out, s, b"\n");
-    closed(out, t)
+    let mut b = Buffers {
+        left,
+        right,
+        colour,
+        lefts,
+        rights,
+        line,
+        out,
+    };
+    end_input(&mut b, s)
 }
 
 // What a read delivered: n bytes of the input, or none, which is its end.
@@ -294,11 +268,7 @@ pub fn turn(
         out.new ≡ turn n input.now (stand s left.old right.old colour.old lefts.old
         rights.old line.old out.old) }
 {
-    if n == 0 {
-        return finish(left, right, colour, lefts, rights, line, out, s);
-    }
-    let end = session::least(n, input.len());
-    block(
+    let mut b = Buffers {
         left,
         right,
         colour,
@@ -306,7 +276,6 @@ pub fn turn(
         rights,
         line,
         out,
-        s,
-        &input[0..end],
-    )
+    };
+    turn_in(&mut b, s, input, n)
 }

@@ -18,6 +18,7 @@ use Rattle.lines.proofs.first.Reads as first
 use Rattle.lines.proofs.later.Reads as later
 use Rattle.lines.proofs.load.Reads as load
 use Rattle.session.specs.Feeding.{Stand, held, standing, stand}
+use Rattle.session.specs.declared.Buffers.{Buffers as Slices}
 use Rattle.session.specs.declared.Session.{Session}
 use Rattle.session.specs.declared.Stage.{Stage}
 use Rattle.transcript.proofs.start.Reads as start
@@ -26,6 +27,7 @@ use Rattle.transcript.proofs.is_stopped.Reads as is-stopped
 use Rattle.transcript.proofs.block.Reads as block
 use Rattle.transcript.proofs.finish.Reads as finish
 use Rattle.transcript.proofs.turn.Reads as turn
+use Rattle.transcript.proofs.turn_in.Reads as turn-in
 use Rattle.jenturik_text.specs.declared.Turned.{Turned}
 use Rattle.jenturik_text.specs.Turning.{Left}
 use Rattle.jenturik_text.proofs.jenturik_turn.Reads as jenturik-turn
@@ -182,6 +184,15 @@ pub turn_determined : (κs : _) (a : _) (r r' : _) (s s' : _) → turn.Learnt κ
     s'.1.1.1.1.0.now s'.1.1.1.1.1.0.now
     s'.1.1.1.1.1.1.0.now))
 turn_determined κs a r r' s s' p q = tells _ _ _ _ (determined p q)
+
+-- the buffers behind the slices that are lent together
+abbrev pub behind : Slices → Buffers
+behind b = buffers b.left.now b.right.now b.colour.now b.lefts.now b.rights.now b.line.now b.out.now
+
+pub turn_in_determined : (κs : _) (a : _) (r r' : _) (s s' : _) → turn-in.Learnt κs a r s
+    → turn-in.Learnt κs a r' s' → (r ≡ r') × (behind s.0.now ≡ behind s'.0.now)
+turn_in_determined κs a r r' s s' p q =
+    tells r r' (behind s.0.now) (behind s'.0.now) (determined p.1 q.1)
 
 turned : ℕ → ℕ → ℕ → ℕ → Turned
 turned used code over fourth = record { used = used; code = code; over = over; zero = fourth }

@@ -1,19 +1,20 @@
 -- Of a line 81 bytes are kept: a longer one is as unreadable as they are, and begins an export
 -- where they do.
-use Prim.Native.Nat.{ℕ, ◌+◌, ◌<◌, ◌≤◌}
+use Prim.Native.Nat.{ℕ, zero, suc, ◌<◌, ◌≤◌}
 use mathlib.Core.Bool.{Bool, true, false}
 use mathlib.Core.Path.{◌≡◌, refl, sym, ap, ◌∙◌}
 use mathlib.Core.List.{List, [], ◌∷◌, ◌++◌}
 use native.Mathlib.Omega.{arith}
 use borrow.Author.Tests.{leb-true, leb-false, ne_eqb}
 use lib.ListN.{length, take}
-use lib.Seq.{take_all, take-take, take-append-le, length-take-le, get_or-take}
+use lib.Seq.{take_all, take-take, take-append-le, length-take-le}
 use lib.Dec.{leb, eqb}
-use Rattle.base.proofs.Tests.{pick_yes, pick_no, every_here, lt_yes, le_no}
+use Rattle.base.proofs.Tests.{pick_yes, lt_yes}
 use Rattle.text.specs.Bytes.{bytes}
 use Rattle.text.specs.declared.Said.TheVariants.{Unreadable}
-use Rattle.text.specs.declared.Listed.TheVariants.{Stray}
-use Rattle.text.specs.Grammar.{longest, byte_at, after, read, is_export, entry}
+use Rattle.std.specs.Prelude.{None, is_some}
+use Rattle.base.specs.Choice.{pick}
+use Rattle.text.specs.Grammar.{longest, after, read, is_export, entry}
 use Rattle.whole.specs.Transcript.{Awaits, opening, second, export, steps, nothing}
 use Rattle.whole.specs.Transcript.{answer, bare, reads}
 use Rattle.session.specs.Feeding.{keeps}
@@ -22,9 +23,9 @@ pub long : (w : List ℕ) → longest < length w → Unreadable ≡ read w
 unfolding read
 long w h = pick_yes _ _ _ _ (lt_yes _ _ h) refl
 
-long_entry : (w : List ℕ) (n : ℕ) → longest < length w → Stray ≡ entry w n
+long_entry : (w : List ℕ) (n : ℕ) → longest < length w → None ≡ entry w n
 unfolding entry
-long_entry w n h = pick_no _ _ _ _ (every_here _ _ (le_no _ _ h)) refl
+long_entry w n h = pick_yes _ _ _ _ (lt_yes _ _ h) refl
 
 -- by the length
 cases : (P : List ℕ → Type 0) (w : List ℕ) → (length w ≤ keeps → P w) → (keeps < length w → P w)
@@ -48,18 +49,25 @@ read_kept : (w : List ℕ) → read (take keeps w) ≡ read w
 read_kept w = same_kept read Unreadable long w
 
 entry_kept : (w : List ℕ) (n : ℕ) → entry (take keeps w) n ≡ entry w n
-entry_kept w n = same_kept (λ w. entry w n) Stray (λ w. long_entry w n) w
+entry_kept w n = same_kept (λ w. entry w n) None (λ w. long_entry w n) w
 
-after_kept : (w : List ℕ) (i : ℕ) (word : List ℕ) → i + length word ≤ keeps
-    → after (take keeps w) i word ≡ after w i word
-unfolding after byte_at
-after_kept w i [] h = refl
-after_kept w i (b ∷ word) h =
-    rw (get_or-take keeps w i 256 (omega arith), after_kept w (i + 1) word (omega arith))
+-- a word stands in so many bytes of a line where it stands in the line
+word_kept : (k : ℕ) (w word : List ℕ) → length word ≤ k
+    → is_some (after (take k w) word) ≡ is_some (after w word)
+unfolding after pick
+word_kept k w [] h = refl
+word_kept zero w (b ∷ word) h = absurd (omega arith)
+word_kept (suc k) [] (b ∷ word) h = refl
+word_kept (suc k) (c ∷ w) (b ∷ word) h = go (eqb c b) (word_kept k w word (omega arith))
+  where
+    go : (t : Bool) → is_some (after (take k w) word) ≡ is_some (after w word)
+        → is_some (pick t (after (take k w) word) None) ≡ is_some (pick t (after w word) None)
+    go true e = e
+    go false e = refl
 
 export_kept : (w : List ℕ) → is_export (take keeps w) ≡ is_export w
 unfolding is_export
-export_kept w = rw (after_kept w 0 (bytes "node=") (omega arith))
+export_kept w = word_kept keeps w (bytes "node=") (omega arith)
 
 empty_kept : (w : List ℕ) → eqb (length (take keeps w)) 0 ≡ eqb (length w) 0
 empty_kept w =

@@ -21,7 +21,7 @@ use Rattle.rules.specs.Steps.{taking, linking, shading, looking, step, run}
 use Rattle.rules.specs.declared.Place.{Place}
 use Rattle.rules.specs.Schedules.{follow, schedule, collects}
 use Rattle.text.specs.Bytes.{bytes}
-use Rattle.text.specs.Grammar.{byte_at, after, is_digit, digits_at, number_at, side_at, letters_at}
+use Rattle.text.specs.Grammar.{after, is_digit, digits_at, number_at, side_at, letters_at}
 use Rattle.text.specs.Grammar.{turns_at, place_at, take_line, link_line, shade_line, look_line}
 use Rattle.text.specs.Grammar.{collect_line, first_line, counted, read, is_export}
 use Rattle.text.specs.Answers.{digit_of, decimal, said}
@@ -124,7 +124,7 @@ sayings =
     (taking (at 1 0) 1) ∷ []
 
 says : Says later_lines sayings
-unfolding pick every byte_at after is_digit digits_at number_at side_at letters_at turns_at place_at
+unfolding pick every after is_digit digits_at number_at side_at letters_at turns_at place_at
     take_line link_line shade_line look_line collect_line first_line counted read sayings plain
 says =
     more refl refl
@@ -133,7 +133,7 @@ says =
     (more refl refl (more refl refl (more refl refl (more refl refl (more refl refl none)))))))
 
 opens : read (bytes "nodes=5 slots=1") ≡ First 5 1
-unfolding pick every byte_at after is_digit digits_at number_at side_at letters_at turns_at place_at
+unfolding pick every after is_digit digits_at number_at side_at letters_at turns_at place_at
     take_line link_line shade_line look_line collect_line first_line counted read
 opens = refl
 
@@ -148,7 +148,7 @@ unfolding pick every first unless edge_of with_edge cleared shade_in bad_edge on
 done = refl
 
 pub listing : transcript (lines given) ≡ lines told
-unfolding pick plain fresh size_ok every firstly answer is_export after byte_at
+unfolding pick plain fresh size_ok every firstly answer is_export after
 listing =
     reads_line opening (bytes "nodes=5 slots=1") [] (lines later_lines) refl
     ∙ rw opens (ap (λ (o : List ℕ). printed (firstly (First 5 1)) ++ o)

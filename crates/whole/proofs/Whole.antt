@@ -13,8 +13,8 @@ use Rattle.base.specs.Choice.{pick}
 use Rattle.rules.specs.Table.{State}
 use Rattle.text.specs.Grammar.{read, is_export, entry}
 use Rattle.text.specs.Answers.{written, widest, contents, put, put_all}
-use Rattle.text.specs.declared.Listed.{Listed}
-use Rattle.text.specs.declared.Listed.TheVariants.{Edges, Stray}
+use Rattle.std.specs.Prelude.{Option, Some, None}
+use Rattle.text.specs.declared.Edges.{Edges}
 use Rattle.text.proofs.Outputs.{Longer, put_full, put_longer, longer, said_short}
 use Rattle.lines.specs.Lines.{Line, prints, later, first, loaded, opened, entries}
 use Rattle.lines.proofs.Firsts.{Opens, opens_first}
@@ -236,52 +236,54 @@ module _ (N n : ℕ) (l k c ls rs : List ℕ) (g : Going) (f : RoomFor N (suc n)
       so_ends st (Serving m) ls rs (later (read (contents g.line)) g.state) tt p q
 
   -- line j of an export
-  entry_ends : (st : Stage) (m j : ℕ) (x : Listed) → j < g.state.rec.m
+  entry_ends : (st : Stage) (m j : ℕ) (x : Option Edges) → j < g.state.rec.m
       → g.state.rec.m ≤ entries
       → Ends N n (stands st l k c ls rs g) (noting m j x (stands st l k c ls rs g))
       (listed g.state (take j ls) (take j rs) x)
   unfolding noting listed filled stopped pick
-  entry_ends st m j Stray h i =
+  entry_ends st m j None h i =
       so_ends st (Stopped m) ls rs (prints 10 0 g.state) tt p q
-  entry_ends st m j (Edges a b) h i = go (ltb (j + 1) g.state.rec.m) refl
+  entry_ends st m j (Some d) h i = go (ltb (j + 1) g.state.rec.m) refl
     where
-      lefts : take (j + 1) (set ls j a) ≡ take j ls ++ (a ∷ [])
-      lefts = rw (add-one j) (take-suc-set ls j a (omega arith))
+      lefts : take (j + 1) (set ls j d.left) ≡ take j ls ++ (d.left ∷ [])
+      lefts = rw (add-one j) (take-suc-set ls j d.left (omega arith))
 
-      rights : take (j + 1) (set rs j b) ≡ take j rs ++ (b ∷ [])
-      rights = rw (add-one j) (take-suc-set rs j b (omega arith))
+      rights : take (j + 1) (set rs j d.right) ≡ take j rs ++ (d.right ∷ [])
+      rights = rw (add-one j) (take-suc-set rs j d.right (omega arith))
 
-      all_lefts : g.state.rec.m ≡ j + 1 → take g.state.rec.m (set ls j a)
-          ≡ take j ls ++ (a ∷ [])
+      all_lefts : g.state.rec.m ≡ j + 1 → take g.state.rec.m (set ls j d.left)
+          ≡ take j ls ++ (d.left ∷ [])
       all_lefts e = rw e lefts
 
-      all_rights : g.state.rec.m ≡ j + 1 → take g.state.rec.m (set rs j b)
-          ≡ take j rs ++ (b ∷ [])
+      all_rights : g.state.rec.m ≡ j + 1 → take g.state.rec.m (set rs j d.right)
+          ≡ take j rs ++ (d.right ∷ [])
       all_rights e = rw e rights
 
-      size : length (take j ls ++ (a ∷ [])) ≡ j + 1
+      size : length (take j ls ++ (d.left ∷ [])) ≡ j + 1
       size =
-          length-append (take j ls) (a ∷ []) ∙ omega (arith, length-take-le j ls (omega arith))
+          length-append (take j ls) (d.left ∷ []) ∙ omega (arith, length-take-le j ls (omega arith))
 
-      more_lefts : entries ≤ length (set ls j a)
-      more_lefts = omega (arith, length-set ls j a)
+      more_lefts : entries ≤ length (set ls j d.left)
+      more_lefts = omega (arith, length-set ls j d.left)
 
-      more_rights : entries ≤ length (set rs j b)
-      more_rights = omega (arith, length-set rs j b)
+      more_rights : entries ≤ length (set rs j d.right)
+      more_rights = omega (arith, length-set rs j d.right)
 
       v : Line
-      v = loaded (take j ls ++ (a ∷ [])) (take j rs ++ (b ∷ [])) g.state
+      v = loaded (take j ls ++ (d.left ∷ [])) (take j rs ++ (d.right ∷ [])) g.state
 
       last : (z : Bool)
           → Ends N n (stands st l k c ls rs g)
-          (stands (pick z (Serving m) (Stopped m)) l k c (set ls j a) (set rs j b)
+          (stands (pick z (Serving m) (Stopped m)) l k c (set ls j d.left) (set rs j d.right)
           (prints_so g v)) (reply (printed v) (pick z (steps v.state) nothing))
-      last true = so_ends st (Serving m) (set ls j a) (set rs j b) v tt more_lefts more_rights
-      last false = so_ends st (Stopped m) (set ls j a) (set rs j b) v tt more_lefts more_rights
+      last true =
+          so_ends st (Serving m) (set ls j d.left) (set rs j d.right) v tt more_lefts more_rights
+      last false =
+          so_ends st (Stopped m) (set ls j d.left) (set rs j d.right) v tt more_lefts more_rights
 
       go : (z : Bool) → ltb (j + 1) g.state.rec.m ≡ z
-          → Ends N n (stands st l k c ls rs g) (noting m j (Edges a b) (stands st l k c ls rs g))
-          (listed g.state (take j ls) (take j rs) (Edges a b))
+          → Ends N n (stands st l k c ls rs g) (noting m j (Some d) (stands st l k c ls rs g))
+          (listed g.state (take j ls) (take j rs) (Some d))
       go true z =
           rw (size, z)
           (record {

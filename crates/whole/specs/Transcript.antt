@@ -1,11 +1,10 @@
 -- The whole transcript: input bytes to output bytes, a line for each line [Program 1].
 use Rattle.base.specs.Choice.{pick}
-use Rattle.std.specs.Prelude.{ℕ, Bool, true, false, List, [], ◌∷◌, ◌++◌, length, ltb, eqb}
+use Rattle.std.specs.Prelude.{ℕ, Bool, true, false, List, [], ◌∷◌, ◌++◌, length, ltb, eqb, Option, Some, None}
 use Rattle.rules.specs.Table.{State}
 use Rattle.text.specs.Grammar.{read, is_export, entry}
 use Rattle.text.specs.Answers.{said}
-use Rattle.text.specs.declared.Listed.{Listed}
-use Rattle.text.specs.declared.Listed.TheVariants.{Edges, Stray}
+use Rattle.text.specs.declared.Edges.{Edges}
 use Rattle.lines.specs.Lines.{Line, later, first, loaded}
 use Rattle.session.specs.Feeding.{printed, newline}
 
@@ -35,13 +34,13 @@ stepped s line = let t = later (read line) s in reply (printed t) (steps t.state
 
 -- a line of an export: [Program 19] it prints nothing, [Program 20] but the last one Load's answer;
 -- [Program 21] one that is out of turn or of another form ends the run
-unfoldable pub listed : State → List ℕ → List ℕ → Listed → Reply
-listed s ls rs (Edges l r) =
-    let ls' = ls ++ (l ∷ []) in
-    let rs' = rs ++ (r ∷ []) in
+unfoldable pub listed : State → List ℕ → List ℕ → Option Edges → Reply
+listed s ls rs (Some e) =
+    let ls' = ls ++ (e.left ∷ []) in
+    let rs' = rs ++ (e.right ∷ []) in
     pick (ltb (length ls') s.rec.m) (reply [] (export s ls' rs'))
     (settled (loaded ls' rs' s) steps)
-listed s ls rs Stray = reply (said 10 0) nothing
+listed s ls rs None = reply (said 10 0) nothing
 
 unfoldable pub answer : Awaits → List ℕ → Reply
 answer opening line = settled (first (read line)) second

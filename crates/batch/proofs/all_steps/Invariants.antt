@@ -3,7 +3,6 @@
 -- refused or leaves a count past its limit, after which a step is refused with code 2.
 use Prim.Native.Nat.{◌+◌, ◌-◌, ◌≤◌}
 use mathlib.Core.Path.{◌≡◌}
-use lib.ListN.{length}
 use Rattle.rules.specs.Table.{state}
 use Rattle.rules.specs.Check.{bound}
 use Rattle.ahead.specs.Leads.{more, Passes}
@@ -12,18 +11,20 @@ use Rattle.rules.specs.Changes.{changes_all}
 use Rattle.batch.proofs.all_steps.Given as goal
 
 abbrev pub invariant-loop-done : goal.invariant-loop-done
-invariant-loop-done l =
-    (length l.left ≡ length l.initial.left) × (length l.right ≡ length l.initial.right) ×
-    (length l.colour ≡ length l.initial.colour) × (l.done ≤ l.n) ×
-    (Passes (state l.left l.right l.colour l.rec)) ×
-    (l.b ≡ bound 2 l.rec.m l.rec.r) ×
-    (more l.n 0 l.initial.answer
-    (state l.initial.left l.initial.right l.initial.colour l.initial.rec)
-    ≡ more (l.n - l.done) l.done l.answer (state l.left l.right l.colour l.rec)) ×
-    (l.changed ≤ l.done) ×
-    (changes_all (collects l.n)
-    (state l.initial.left l.initial.right l.initial.colour l.initial.rec)
-    ≡ l.changed + changes_all (collects (l.n - l.done)) (state l.left l.right l.colour l.rec))
+invariant-loop-done l = record {
+  made : l.done ≤ l.n;
+  passes : Passes (state l.left l.right l.colour l.rec);
+  limit : l.b ≡ bound 2 l.rec.m l.rec.r;
+  rest : more l.n 0 l.initial.answer
+      (state l.initial.left l.initial.right l.initial.colour l.initial.rec)
+      ≡ more (l.n - l.done) l.done l.answer
+      (state l.left l.right l.colour l.rec);
+  few : l.changed ≤ l.done;
+  sum : changes_all (collects l.n)
+      (state l.initial.left l.initial.right l.initial.colour l.initial.rec)
+      ≡ l.changed + changes_all (collects (l.n - l.done))
+      (state l.left l.right l.colour l.rec);
+}
 
 abbrev pub decreases-loop-done : goal.decreases-loop-done
 decreases-loop-done l = l.n - l.done

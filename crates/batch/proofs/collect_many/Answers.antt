@@ -22,21 +22,7 @@ bound-requires c = let g =
       r_le_most_slots = omega arith;
     }
 
-pub all_steps-requires : goal.all_steps-requires
-all_steps-requires c = record {
-  passes = record {
-    code = sym c.if-code-ne0.false
-        ∙ c.check-code.ensures;
-  };
-  b_value = c.bound.ensures;
-}
-
-pub returns : goal.returns
-returns c =
-    record {
-      colour_value = scheduled _ _ _ _ _ (record {
-        code = sym c.if-code-ne0.false ∙ c.check-code.ensures;
-      })
-          c.all_steps.ensures.rec_value;
-      changed_value = c.all_steps.ensures.changed_value;
-    }
+pub returns-clause-colour_value : goal.returns-clause-colour_value
+returns-clause-colour_value c =
+    scheduled _ _ _ _ _ (record { code = sym c.if-code-ne0.false ∙ c.check-code.ensures })
+    c.all_steps.ensures.rec_value

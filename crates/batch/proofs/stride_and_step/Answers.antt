@@ -16,30 +16,29 @@ overflow_sub-near-2 c = let h =
     steps_in _ _ _ _ _ c.requires.passes
     c.requires.b_value in omega arith
 
-pub stride-l-requires : goal.stride-l-requires
-stride-l-requires c =
-    let h =
-    steps_in _ _ _ _ _ c.requires.passes c.requires.b_value in
-    record { passes = c.requires.passes; room = room _ _ _ c.requires.b_value (omega arith) }
+pub stride-ahead-requires-clause-room : goal.stride-ahead-requires-clause-room
+stride-ahead-requires-clause-room c =
+    let h = steps_in _ _ _ _ _ c.requires.passes c.requires.b_value in
+    room _ _ _ c.requires.b_value (omega arith)
 
 pub phase_step-made-requires : goal.phase_step-made-requires
 phase_step-made-requires c = record {
-  checked = (ready _ _ _ _ c.stride-l.ensures.1.passes).0;
-  in_range = (ready _ _ _ _ c.stride-l.ensures.1.passes).1;
+  checked = (ready _ _ _ _ c.stride-ahead.ensures.1.passes).0;
+  in_range = (ready _ _ _ _ c.stride-ahead.ensures.1.passes).1;
 }
 
 pub overflow_add-result : goal.overflow_add-result
 overflow_add-result c =
     let steps = steps_in _ _ _ _ _ c.requires.passes c.requires.b_value in
-    let near = small _ _ c.requires.passes (room _ _ c.least.result c.requires.b_value
-    (omega (arith, steps, c.least.ensures.1))) in
-    let few = stepped_few _ _ _ _ _ _ c.stride-l.ensures.1
+    let near = small _ _ c.requires.passes (room _ _ c.min.result c.requires.b_value
+    (omega (arith, steps, c.min.ensures))) in
+    let few = stepped_few _ _ _ _ _ _ c.stride-ahead.ensures.1
     c.phase_step-made.ensures.colour_value c.phase_step-made.ensures.changed_value in
-    omega (arith, near, few, c.stride-l.ensures.0)
+    omega (arith, near, few, c.stride-ahead.ensures.0)
 
 pub returns : goal.returns
 returns c = (
   omega arith,
-  stepped _ _ _ _ _ _ _ c.requires.b_value c.stride-l.ensures.1 refl
-      c.phase_step-made.ensures.colour_value c.phase_step-made.ensures.changed_value,
+  rw c.from.ensures (stepped _ _ _ _ _ _ _ c.requires.b_value c.stride-ahead.ensures.1 refl
+      c.phase_step-made.ensures.colour_value c.phase_step-made.ensures.changed_value),
 )

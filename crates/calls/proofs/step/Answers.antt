@@ -1,5 +1,4 @@
 -- A code refuses any step. Else `step_passed` makes it.
-use mathlib.Core.Path.{sym, ◌∙◌}
 use Rattle.rules.proofs.Changes.{told_none}
 use Rattle.calls.proofs.Named.{none_passes}
 use Rattle.calls.proofs.step.Goals as goal
@@ -9,10 +8,6 @@ returns-then-code-ne0 c =
     told_none _ _ _ _ _ (rw c.refusal.ensures
     (none_passes _ _ _ c.check-code.ensures c.if-code-ne0.true))
     (rw c.refusal.ensures)
-
-pub step_passed-requires : goal.step_passed-requires
-step_passed-requires c =
-    sym c.if-code-ne0.false ∙ c.check-code.ensures
 
 pub returns : goal.returns
 returns c = let done = c.step_passed.ensures in

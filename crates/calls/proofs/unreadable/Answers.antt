@@ -5,10 +5,10 @@ use Rattle.base.proofs.Tests.{firsts}
 use Rattle.calls.specs.Unreadable.{unreadable}
 use Rattle.calls.proofs.unreadable.Goals as goal
 
-pub returns-then-code-ne0 : goal.returns-then-code-ne0
+pub returns-then-code-eq0 : goal.returns-then-code-eq0
 unfolding unreadable
-returns-then-code-ne0 c = search (firsts, rules) depth 12
+returns-then-code-eq0 c = search (firsts, rules) depth 12
 
-pub returns : goal.returns
+pub returns-else-code-eq0 : goal.returns-else-code-eq0
 unfolding unreadable
-returns c = search (firsts, rules) depth 12
+returns-else-code-eq0 c = search (firsts, rules) depth 12

@@ -8,6 +8,6 @@ pub returns-then-i-r : goal.returns-then-i-r
 unfolding after_roots
 returns-then-i-r c = search (tests, rules) depth 12
 
-pub returns : goal.returns
+pub returns-else-i-r : goal.returns-else-i-r
 unfolding after_roots
-returns c = search (tests, rules) depth 12
+returns-else-i-r c = search (tests, rules) depth 12

@@ -1,9 +1,6 @@
 -- Past the two refusals the three writes are those of the definition, in its order: node i and
 -- last lie in the table.
-use Prim.Native.Nat.{◌<◌}
 use mathlib.Core.Path.{refl, ap, ◌∙◌}
-use lib.ListN.{length}
-use native.Mathlib.Omega.{arith}
 use borrow.Author.Rules.{rules}
 use Rattle.base.proofs.Tests.{tests}
 use Rattle.rules.specs.Table.{with_edge, cleared}
@@ -15,29 +12,24 @@ use Rattle.collector.proofs.append_white.Goals as goal
 pub returns-then-i-x : goal.returns-then-i-x
 unfolding append_white
 returns-then-i-x c =
-    record { by_index = λ l. rw c.refusal_with.ensures (search (tests, rules) depth 12); changed_value = rw c.refusal_with.ensures }
+    record {
+      by_index = λ l. rw c.refusal_with.ensures (search (tests, rules) depth 12);
+      changed_value = rw c.refusal_with.ensures;
+    }
 
 pub returns-then-i-x-2 : goal.returns-then-i-x-2
 unfolding append_white
 returns-then-i-x-2 c =
-    record { by_index = λ l. rw c.refusal_with-then-i-x-2.ensures (search (tests, rules) depth 12); changed_value = rw c.refusal_with-then-i-x-2.ensures }
-
-pub bounds-left-end : goal.bounds-left-end
-bounds-left-end c =
-    let inside : c.args.x.last < length c.args.left.now =
-    omega (arith, c.requires) in
-    search rules
-
-pub more_free-requires : goal.more_free-requires
-more_free-requires c =
-    rw c.with_last.ensures (omega (arith, c.requires))
-
-pub after_append-requires : goal.after_append-requires
-after_append-requires c =
-    rw (c.more_free.ensures, c.with_last.ensures) (omega (arith, c.requires))
+    record {
+      by_index = λ l. rw c.refusal_with-then-i-x-2.ensures (search (tests, rules) depth 12);
+      changed_value = rw c.refusal_with-then-i-x-2.ensures;
+    }
 
 pub returns : goal.returns
 unfolding append_white append with_edge cleared
 returns c =
     let grown = c.more_free.ensures ∙ ap more_free c.with_last.ensures
-    in record { by_index = λ k. rw (← grown) (search (same, tests, rules) depth 12); changed_value = refl }
+    in record {
+      by_index = λ k. rw (← grown) (search (same, tests, rules) depth 12);
+      changed_value = refl;
+    }

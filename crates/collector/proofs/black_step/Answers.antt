@@ -8,4 +8,7 @@ use Rattle.collector.proofs.black_step.Goals as goal
 
 pub returns : goal.returns
 unfolding black_step
-returns c = record { by_index = λ es. search (same, tests, rules) depth 12; changed_value = search rules }
+returns c = record {
+  by_index = λ es. search (same, tests, rules) depth 12;
+  changed_value = search rules;
+}

@@ -14,10 +14,10 @@ returns-then-bad_edge c = record {
   changed_value = rw c.refusal_with.ensures refl;
 }
 
-pub returns : goal.returns
+pub returns-else-bad_edge : goal.returns-else-bad_edge
 unfolding read_step
-returns c = record {
+returns-else-bad_edge c = record {
   by_index = λ es l. pick_no _ _ _ _ (sym c.if-bad_edge.false ∙ c.bad_edge.ensures)
-      (search (same, rules) depth 12);
-  changed_value = refl;
+      (rw c.looked.ensures (search (same, rules) depth 12));
+  changed_value = rw c.looked.ensures;
 }

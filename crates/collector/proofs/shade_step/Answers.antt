@@ -6,10 +6,16 @@ use Rattle.rules.proofs.Changes.{unchanged}
 use Rattle.rules.proofs.Laws.{same}
 use Rattle.collector.proofs.shade_step.Goals as goal
 
-pub returns-then-colour-at-gt2 : goal.returns-then-colour-at-gt2
+pub returns-then-colour-from-gt-BLACK : goal.returns-then-colour-from-gt-BLACK
 unfolding shade_step
-returns-then-colour-at-gt2 c = record { by_index = λ es. rw c.refusal.ensures (search (tests, rules) depth 12); changed_value = rw c.refusal.ensures (unchanged _) }
+returns-then-colour-from-gt-BLACK c = record {
+  by_index = λ es. rw c.refusal.ensures (search (tests, rules) depth 12);
+  changed_value = rw c.refusal.ensures (unchanged _);
+}
 
 pub returns : goal.returns
 unfolding shade_step
-returns c = record { by_index = λ es. search (same, tests, rules) depth 12; changed_value = search rules }
+returns c = record {
+  by_index = λ es. search (same, tests, rules) depth 12;
+  changed_value = search rules;
+}

@@ -7,22 +7,22 @@ use Rattle.editor.proofs.link_from.Goals as goal
 pub link_to-requires : goal.link_to-requires
 link_to-requires c =
     let n =
-    found_below _ _ _ _ _ _ _ _ c.depart-from.ensures c.in-Found.is
+    found_below _ _ _ _ _ _ _ _ c.depart.ensures c.in-Ok.is
     (omega (arith, c.requires)) in
     omega (arith, c.requires)
 
-pub returns-in-Found : goal.returns-in-Found
-returns-in-Found c =
+pub returns-in-Ok : goal.returns-in-Ok
+returns-in-Ok c =
     record {
-      by_index = λ k. departs _ _ _ _ _ _ c.depart-from.ensures c.in-Found.is
+      by_index = λ k. departs _ _ _ _ _ _ c.depart.ensures c.in-Ok.is
           (c.link_to.ensures.by_index k);
       changed_value = c.link_to.ensures.changed_value;
     }
 
-pub returns-in-Missing : goal.returns-in-Missing
-returns-in-Missing c =
+pub returns-in-Err : goal.returns-in-Err
+returns-in-Err c =
     record {
       by_index = λ k. rw c.refusal_with.ensures
-          (absent _ _ _ _ _ _ _ c.depart-from.ensures c.in-Missing.is);
+          (absent _ _ _ _ _ c.depart.ensures c.in-Err.is);
       changed_value = rw c.refusal_with.ensures;
     }

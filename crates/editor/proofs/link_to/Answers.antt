@@ -5,22 +5,22 @@ use Rattle.rules.specs.Editor.{link_to}
 use Rattle.places.proofs.Arrivals.{arrives, stops, leaves}
 use Rattle.editor.proofs.link_to.Goals as goal
 
-pub returns-in-At : goal.returns-in-At
+pub returns-in-Ok : goal.returns-in-Ok
 unfolding link_to
-returns-in-At c =
+returns-in-Ok c =
     record {
-      by_index = λ k. arrives _ _ _ _ _ _ c.walk-to.ensures c.in-At.is
+      by_index = λ k. arrives _ _ _ _ _ _ c.walk.ensures c.in-Ok.is
           (leaves _ c.args.x _ _ _ _ _ _
           (c.set_edge.ensures k c.args.x)
           c.owing.ensures);
       changed_value = refl;
     }
 
-pub returns-in-Damaged : goal.returns-in-Damaged
+pub returns-in-Err : goal.returns-in-Err
 unfolding link_to
-returns-in-Damaged c =
+returns-in-Err c =
     record {
       by_index = λ k. rw c.refusal_with.ensures
-          (stops _ _ _ _ _ _ c.walk-to.ensures c.in-Damaged.is);
+          (stops _ _ _ _ _ c.walk.ensures c.in-Err.is);
       changed_value = rw c.refusal_with.ensures;
     }

@@ -19,29 +19,29 @@ returns-then-code-ne0 c =
     told_none _ _ _ _ _ (rw (step_looking, c.refusal.ensures)
     (unless_refused _ _ _ _ code c.if-code-ne0.true)) (rw c.refusal.ensures)
 
-pub walk-found-requires : goal.walk-found-requires
-walk-found-requires c =
+pub walk-requires : goal.walk-requires
+walk-requires c =
     let code = first_skip _ 0 _ _ c.requires refl
     (first_last _ _ c.place_code-code.ensures) in
     let z = zeros _ (sym c.if-code-ne0.false ∙ code) in
     let g = good _ _ _ _ z.0 in
     let k = slot_below _ _ _ z.1.0 in omega arith
 
-pub returns-in-At : goal.returns-in-At
+pub returns-in-Ok : goal.returns-in-Ok
 unfolding look
-returns-in-At c =
+returns-in-Ok c =
     let code = first_skip _ 0 _ _ c.requires refl (first_last _ _ c.place_code-code.ensures) in
     told_none _ _ _ _ _ (rw step_looking (unless_done _ _ _ _ _ code
     c.if-code-ne0.false
-    (arrives _ _ _ _ _ _ c.walk-found.ensures
-    c.in-At.is refl))) refl
+    (arrives _ _ _ _ _ _ c.walk.ensures
+    c.in-Ok.is refl))) refl
 
-pub returns-in-Damaged : goal.returns-in-Damaged
+pub returns-in-Err : goal.returns-in-Err
 unfolding look
-returns-in-Damaged c =
+returns-in-Err c =
     let code = first_skip _ 0 _ _ c.requires refl (first_last _ _ c.place_code-code.ensures) in
     told_none _ _ _ _ _ (rw (step_looking, c.refusal_with.ensures) (unless_done _ _ _ _ _
     code c.if-code-ne0.false
-    (stops _ _ _ _ _ _ c.walk-found.ensures
-    c.in-Damaged.is)))
+    (stops _ _ _ _ _ c.walk.ensures
+    c.in-Err.is)))
     (rw c.refusal_with.ensures)

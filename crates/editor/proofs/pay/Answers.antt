@@ -10,31 +10,31 @@ use Rattle.rules.proofs.Changes.{unchanged}
 use Rattle.rules.proofs.Laws.{same}
 use Rattle.editor.proofs.pay.Goals as goal
 
-pub bounds-colour-at : goal.bounds-colour-at
-bounds-colour-at c = let h =
+pub bounds-colour-from : goal.bounds-colour-from
+bounds-colour-from c = let h =
     subst (Owable (length c.args.colour.now))
-    c.in-Node.is c.requires in
+    c.in-Some.is c.requires in
     omega arith
 
-pub returns-then-colour-at-gt2 : goal.returns-then-colour-at-gt2
+pub returns-then-colour-from-gt-BLACK : goal.returns-then-colour-from-gt-BLACK
 unfolding pay
-returns-then-colour-at-gt2 c = record {
-  by_index = λ es. rw (c.refusal-then-colour-at-gt2.ensures, c.in-Node.is)
+returns-then-colour-from-gt-BLACK c = record {
+  by_index = λ es. rw (c.refusal-then-colour-from-gt-BLACK.ensures, c.in-Some.is)
       (search (tests, rules) depth 12);
-  changed_value = rw c.refusal-then-colour-at-gt2.ensures (unchanged _);
+  changed_value = rw c.refusal-then-colour-from-gt-BLACK.ensures (unchanged _);
 }
 
 pub shade_node-changed-requires : goal.shade_node-changed-requires
 shade_node-changed-requires c =
     let h =
     subst (Owable (length c.args.colour.now))
-    c.in-Node.is c.requires in omega arith
+    c.in-Some.is c.requires in omega arith
 
-pub returns-in-Nothing : goal.returns-in-Nothing
+pub returns-in-None : goal.returns-in-None
 unfolding pay
-returns-in-Nothing c = record { by_index = λ es. rw (c.refusal.ensures, c.in-Nothing.is); changed_value = rw c.refusal.ensures (unchanged _) }
+returns-in-None c = record { by_index = λ es. rw (c.refusal.ensures, c.in-None.is); changed_value = rw c.refusal.ensures (unchanged _) }
 
-pub returns-else-colour-at-gt2 : goal.returns-else-colour-at-gt2
+pub returns-else-colour-from-gt-BLACK : goal.returns-else-colour-from-gt-BLACK
 unfolding pay
-returns-else-colour-at-gt2 c =
-    record { by_index = λ es. rw c.in-Node.is (search (same, tests, rules) depth 12); changed_value = search rules }
+returns-else-colour-from-gt-BLACK c =
+    record { by_index = λ es. rw c.in-Some.is (search (same, tests, rules) depth 12); changed_value = search rules }

@@ -3,6 +3,6 @@ use Rattle.export.proofs.Filled.{filled_so}
 use Rattle.export.proofs.fill.Goals as goal
 
 pub returns : goal.returns
-returns c =
-    filled_so _ _ _ _ _ _ _ _ _ _ _ _ _ _ _ _ c.load_part-answer.ensures c.say-used.ensures
-    _ c.after_load-stage.ensures
+returns c = λ line.
+    filled_so _ _ _ _ _ _ _ _ _ _ _ _ _ _ _ _ (rw c.from-n.ensures at c.load_part-told.ensures)
+    c.say-used.ensures _ c.after.ensures _

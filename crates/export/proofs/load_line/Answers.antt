@@ -1,29 +1,22 @@
 -- `load_line` meets its contract: `noting` goes by what the line says, as the code does.
 use mathlib.Core.Path.{sym, ◌∙◌}
-use native.Mathlib.Omega.{arith}
 use Rattle.session.specs.Feeding.{noting}
 use Rattle.export.proofs.Filled.{noted_more, noted_last}
 use Rattle.export.proofs.load_line.Goals as goal
 
-pub overflow_add-stage : goal.overflow_add-stage
-overflow_add-stage c =
-    let h = c.more.ensures.1 c.if-more.true in
-    omega arith
+pub returns-in_default : goal.returns-in_default
+unfolding noting
+returns-in_default c =
+    rw (← c.entry_of.ensures, c.in_default.is) (c.stop.ensures _ _ _ _ _ _)
 
 pub returns-then-more : goal.returns-then-more
 returns-then-more c =
-    rw (← c.entry_of-listed.ensures, c.in-Edges.is)
-    (noted_more _ _ _ _ _ _ _ _ _ _ _ _ _ _ c.note.ensures.0 c.note.ensures.1
-    (sym c.if-more.true ∙ c.more.ensures.0))
+    rw (← c.entry_of.ensures, c.in-Some.is)
+    (noted_more _ _ _ _ _ _ _ _ _ _ _ _ _ c.note.ensures.left c.note.ensures.right
+    (sym c.if-more.true ∙ c.more.ensures.value))
 
-pub returns-else-more : goal.returns-else-more
-returns-else-more c =
-    rw (← c.entry_of-listed.ensures, c.in-Edges.is)
-    (noted_last _ _ _ _ _ _ _ _ _ _ _ _ _ _ c.note.ensures.0 c.note.ensures.1
-    (sym c.if-more.false ∙ c.more.ensures.0) _ (c.fill.ensures _))
-
-pub returns-in-Stray : goal.returns-in-Stray
-unfolding noting
-returns-in-Stray c =
-    rw (← c.entry_of-listed.ensures, c.in-Stray.is)
-    (c.stop.ensures _ _ _ _ _ _)
+pub returns : goal.returns
+returns c =
+    rw (← c.entry_of.ensures, c.in-Some.is)
+    (noted_last _ _ _ _ _ _ _ _ _ _ _ _ _ c.note.ensures.left c.note.ensures.right
+    (sym c.if-more.false ∙ c.more.ensures.value) _ (c.fill.ensures _))

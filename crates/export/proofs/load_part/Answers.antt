@@ -8,7 +8,7 @@ use Rattle.export.proofs.load_part.Goals as goal
 pub returns : goal.returns
 returns c =
     replaced _ _ _ _ _ _ _ _ _ _ _ _ _ _ _ _ _ _ _
-    (lent _ _ _ _ c.least-a.ensures (omega arith))
-    (lent _ _ _ _ c.least-b.ensures (omega arith))
-    (lent _ _ _ _ c.least-c.ensures (omega arith)) c.least-d.ensures
-    c.least-e.ensures c.load.ensures
+    (lent _ _ _ _ c.min-a.ensures (omega arith))
+    (lent _ _ _ _ c.min-b.ensures (omega arith))
+    (lent _ _ _ _ c.min-c.ensures (omega arith)) c.min-d.ensures
+    c.min-e.ensures c.load.ensures

@@ -6,5 +6,4 @@ use Rattle.freed.proofs.dark.Goals as goal
 pub returns : goal.returns
 returns c =
     let looked = c.until_white.ensures in
-    let least = c.least.ensures in
-    (omega (arith, looked.0, least.0), dark_within _ _ _ _ _ looked.1 least.1)
+    (omega arith, dark_within _ _ _ _ _ looked.1 (omega arith))

@@ -1,4 +1,5 @@
 -- `far` meets its contract: in Append the colours tell, and else the phase.
+use native.Mathlib.Omega.{arith}
 use Rattle.freed.proofs.Colours.{far_append}
 use Rattle.freed.proofs.far.Goals as goal
 
@@ -7,5 +8,5 @@ returns-in-Append c =
     let done = c.dark.ensures in (
       done.0,
       rw c.in-Append.is
-          (far_append _ _ _ _ _ done.1 c.least.ensures.0),
+          (rw c.from.ensures at (far_append _ _ c.args.x.m _ _ done.1 (omega arith))),
     )

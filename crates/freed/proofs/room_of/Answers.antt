@@ -1,13 +1,6 @@
--- The test is the definition's; a number below the largest of 16 bits fits.
-use borrow.Author.Rules.{rules}
-use Rattle.base.proofs.Tests.{tests}
-use Rattle.freed.specs.Freed.{room_of}
+-- `room_of` meets its contract: a number that 16 bits hold, or the largest of these.
+use Rattle.freed.proofs.Notes.{room_is}
 use Rattle.freed.proofs.room_of.Goals as goal
 
-pub returns-then-n-lt65535 : goal.returns-then-n-lt65535
-unfolding room_of
-returns-then-n-lt65535 c = search (tests, rules) depth 12
-
 pub returns : goal.returns
-unfolding room_of
-returns c = search (tests, rules) depth 12
+returns c = room_is _ _ _ c.try_from.ensures c.unwrap_or.ensures

@@ -12,10 +12,10 @@ abbrev pub invariant-loop-done : goal.invariant-loop-done
 invariant-loop-done l =
     (length l.left ≡ length l.initial.left) × (length l.right ≡ length l.initial.right) ×
     (length l.colour ≡ length l.initial.colour) × (length l.list ≡ length l.initial.list) ×
-    (l.done ≤ l.n) ×
-    (l.count ≤ l.room) × (l.changed ≤ l.done) × (l.room ≤ length l.initial.list) ×
-    (gather l.n l.room 0 0 [] (state l.initial.left l.initial.right l.initial.colour l.initial.rec)
-    ≡ gather (l.n - l.done) (l.room - l.count) l.done l.changed (take l.count l.list)
+    (l.done ≤ l.n) × (l.count ≤ length l.initial.list) × (l.changed ≤ l.done) ×
+    (gather l.n (length l.initial.list) 0 0 []
+    (state l.initial.left l.initial.right l.initial.colour l.initial.rec)
+    ≡ gather (l.n - l.done) (length l.initial.list - l.count) l.done l.changed (take l.count l.list)
     (state l.left l.right l.colour l.rec)) ×
     (drop l.count l.list ≡ drop l.count l.initial.list)
 

@@ -8,6 +8,6 @@ pub returns-then-r-m : goal.returns-then-r-m
 unfolding fresh_last
 returns-then-r-m c = search (tests, rules) depth 12
 
-pub returns : goal.returns
+pub returns-else-r-m : goal.returns-else-r-m
 unfolding fresh_last
-returns c = search (tests, rules) depth 12
+returns-else-r-m c = search (tests, rules) depth 12

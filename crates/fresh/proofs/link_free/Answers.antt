@@ -27,9 +27,9 @@ loop-node-init c =
       omega arith,
       omega arith,
       simp length-set (omega arith),
-      down f left _ m _ _ (omega arith) (omega arith)
+      rw c.from-last.ensures (down f left _ m _ _ (omega arith) (omega arith)
           (of_free _ _ _ _ (omega arith) (after_last _ _ (omega arith)))
-          (ahead f left m (omega arith)),
+          (ahead f left m (omega arith))),
     )
 
 pub loop-node-preserved : goal.loop-node-preserved
@@ -37,10 +37,10 @@ loop-node-preserved c = (
   omega arith,
   omega arith,
   simp length-set (omega arith),
-  down (fresh_left c.args.m c.args.r) _ _ _ _ _ (omega arith)
+  rw c.from.ensures (down (fresh_left c.args.m c.args.r) _ _ _ _ _ (omega arith)
       (omega arith)
       (of_free _ _ _ _ (omega arith) (after _ _ _ (omega arith) (omega arith)))
-      c.loop-node.invariant.3,
+      c.loop-node.invariant.3),
 )
 
 pub returns : goal.returns

@@ -3,57 +3,29 @@
 use mathlib.Core.Path.{refl}
 use lib.ListN.{length-set}
 use native.Mathlib.Omega.{arith}
-use Rattle.in_order.proofs.Sweeps.{at, stays, whitens, appends}
+use Rattle.in_order.proofs.Sweeps.{at, whitens, appends}
 use Rattle.in_order.proofs.append_one.Goals as goal
 
 pub bounds-colour-i : goal.bounds-colour-i
 bounds-colour-i c =
     let g = at _ _ _ _ _ c.requires.can_append.passes in omega arith
 
-pub bounds-colour-i-then-colour-i-eq2 : goal.bounds-colour-i-then-colour-i-eq2
-bounds-colour-i-then-colour-i-eq2 c =
-    let g = at _ _ _ _ _ c.requires.can_append.passes in omega arith
-
-pub overflow_add-result : goal.overflow_add-result
-overflow_add-result c =
-    let g = at _ _ _ _ _ c.requires.can_append.passes in omega arith
-
-pub returns-then-colour-i-eq2 : goal.returns-then-colour-i-eq2
-returns-then-colour-i-eq2 c = (
+pub returns-then-colour-i-eq-BLACK : goal.returns-then-colour-i-eq-BLACK
+returns-then-colour-i-eq-BLACK c = (
   omega arith,
-  whitens _ _ _ _ _ _ c.requires.can_append _ (omega arith) refl refl refl c.if-colour-i-eq2.true,
+  whitens _ _ _ _ _ _ c.requires.can_append _ (omega arith) refl refl refl c.if-colour-i-eq-BLACK.true,
 )
 
 pub bounds-colour-i-2 : goal.bounds-colour-i-2
 bounds-colour-i-2 c =
     let g = at _ _ _ _ _ c.requires.can_append.passes in omega arith
 
-pub returns-then-colour-i-ne0 : goal.returns-then-colour-i-ne0
-returns-then-colour-i-ne0 c =
-    (omega arith, stays _ _ _ _ _ c.requires.can_append.passes)
-
-pub returns-then-i-last : goal.returns-then-i-last
-returns-then-i-last c =
-    (omega arith, stays _ _ _ _ _ c.requires.can_append.passes)
-
-pub offset_bounds-left-i : goal.offset_bounds-left-i
-offset_bounds-left-i c =
-    let g = at _ _ _ _ _ c.requires.can_append.passes in omega arith
-
 pub bounds-left-i : goal.bounds-left-i
 bounds-left-i c =
     let g = at _ _ _ _ _ c.requires.can_append.passes in omega arith
 
-pub offset_bounds-right-i : goal.offset_bounds-right-i
-offset_bounds-right-i c =
-    let g = at _ _ _ _ _ c.requires.can_append.passes in omega arith
-
 pub bounds-right-i : goal.bounds-right-i
 bounds-right-i c =
-    let g = at _ _ _ _ _ c.requires.can_append.passes in omega arith
-
-pub overflow_cast-left : goal.overflow_cast-left
-overflow_cast-left c =
     let g = at _ _ _ _ _ c.requires.can_append.passes in omega arith
 
 pub offset_bounds-left-last : goal.offset_bounds-left-last
@@ -64,18 +36,10 @@ pub bounds-left-last : goal.bounds-left-last
 bounds-left-last c =
     let g = at _ _ _ _ _ c.requires.can_append.passes in simp length-set (omega arith)
 
-pub overflow_add-result-2 : goal.overflow_add-result-2
-overflow_add-result-2 c =
-    let g = at _ _ _ _ _ c.requires.can_append.passes in omega arith
-
-pub overflow_add-result-3 : goal.overflow_add-result-3
-overflow_add-result-3 c =
-    let g = at _ _ _ _ _ c.requires.can_append.passes in omega arith
-
 pub returns : goal.returns
 returns c = (
   omega arith,
   appends _ _ _ _ _ _ c.requires.can_append _ (omega arith) refl refl refl
-      c.if-colour-i-ne0.false c.requires.r_bound c.if-i-last.false
+      c.if-colour-i-ne-WHITE.false c.requires.r_bound c.if-i-last.false
       c.requires.r_bound_2,
 )

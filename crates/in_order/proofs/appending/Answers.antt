@@ -1,14 +1,9 @@
 -- `appending` meets its contract: before each turn the steps that were made lead from the start to
 -- s. `whitening` and `append_some` add steps or none; the loop ends where they add none, so the
 -- measure, what is left up to end, falls.
-use mathlib.Core.Path.{refl}
 use native.Mathlib.Omega.{arith}
-use Rattle.in_order.proofs.Sweeps.{at, stays, goes_on, can}
+use Rattle.in_order.proofs.Sweeps.{at, goes_on, can}
 use Rattle.in_order.proofs.appending.Goals as goal
-
-pub loop-s-init : goal.loop-s-init
-loop-s-init c =
-    let p = c.requires in (refl, refl, refl, p, stays _ _ _ _ _ p.passes)
 
 pub whitening-whitened-requires : goal.whitening-whitened-requires
 whitening-whitened-requires c =
@@ -16,12 +11,6 @@ whitening-whitened-requires c =
     let g = at _ _ _ _ _ inv.3.passes in
     let a = inv.3.low in
     let b = inv.3.high in record { i_le_end = omega arith; end_in_bounds = omega arith }
-
-pub append_some-t-requires : goal.append_some-t-requires
-append_some-t-requires c =
-    let inv = c.loop-s.invariant in
-    can _ _ _ _ _ _ _ _ _ _ inv.3 c.whitening-whitened.ensures.0
-    (c.whitening-whitened.ensures.1.leads _ _ _ inv.3)
 
 pub returns-then-t-s : goal.returns-then-t-s
 returns-then-t-s c =
@@ -32,12 +21,6 @@ returns-then-t-s c =
           (c.whitening-whitened.ensures.1.leads _ _ _ inv.3)
           c.append_some-t.ensures.1),
     )
-
-pub loop-s-smaller : goal.loop-s-smaller
-loop-s-smaller c =
-    let inv = c.loop-s.invariant in
-    let a = (c.whitening-whitened.ensures.1.leads _ _ _ inv.3).low in
-    let b = c.append_some-t.ensures.1.low in omega arith
 
 pub loop-s-preserved : goal.loop-s-preserved
 loop-s-preserved c =
@@ -51,9 +34,3 @@ loop-s-preserved c =
       can _ _ _ _ _ _ _ _ _ _ inv.3 c.append_some-t.ensures.0 steps,
       goes_on _ _ _ _ _ _ _ _ _ _ _ _ _ inv.4 steps,
     )
-
-pub returns : goal.returns
-returns c = (
-  c.loop-s.invariant.3.low,
-  c.loop-s.invariant.4,
-)

@@ -7,36 +7,20 @@ use Rattle.rules.specs.Phases.{position}
 use Rattle.in_order.proofs.Sweeps.{at, at_append, begins, ends}
 use Rattle.in_order.proofs.appends.Goals as goal
 
-pub overflow_sub-x : goal.overflow_sub-x
-overflow_sub-x c =
+pub overflow_sub-from : goal.overflow_sub-from
+overflow_sub-from c =
     let g = at_append _ _ _ _ _ c.requires.passes c.requires.phase_value in omega arith
 
-pub overflow_sub-x-2 : goal.overflow_sub-x-2
-overflow_sub-x-2 c =
+pub overflow_sub-from-2 : goal.overflow_sub-from-2
+overflow_sub-from-2 c =
     let g = at_append _ _ _ _ _ c.requires.passes c.requires.phase_value in omega arith
 
 pub appending-s-requires : goal.appending-s-requires
 appending-s-requires c =
     let g = at_append _ _ _ _ _ c.requires.passes c.requires.phase_value in
-    begins _ _ _ _ _ _ _ c.requires.phase_value c.requires.passes c.requires.room
-    (omega arith) (omega arith) (omega arith)
-
-pub overflow_sub-result : goal.overflow_sub-result
-overflow_sub-result c =
-    c.appending-s.ensures.1.low
-
-pub overflow_add-result : goal.overflow_add-result
-overflow_add-result c =
-    let f = at_append _ _ _ _ _ c.requires.passes c.requires.phase_value in
-    let g = at _ _ _ _ _ c.appending-s.ensures.1.leads.passes in omega arith
-
-pub overflow_add-result-2 : goal.overflow_add-result-2
-overflow_add-result-2 c =
-    let g = at _ _ _ _ _ c.appending-s.ensures.1.leads.passes in omega arith
-
-pub overflow_sub-result-2 : goal.overflow_sub-result-2
-overflow_sub-result-2 c =
-    c.appending-s.ensures.1.few
+    rw (c.from-from.ensures, c.from-2.ensures, c.from-free.ensures) (begins _ _ _ _ _ _ _
+    c.requires.phase_value c.requires.passes c.requires.room (omega arith) (omega arith)
+    (omega arith))
 
 pub swept-requires : goal.swept-requires
 swept-requires c =
@@ -54,6 +38,7 @@ swept-requires c =
 pub returns : goal.returns
 returns c = (
   omega arith,
-  rw c.swept.ensures
-      (ends _ _ _ _ _ _ _ _ _ c.requires.phase_value c.appending-s.ensures.1),
+  rw (c.swept.ensures, c.from-from.ensures, c.from-free.ensures)
+      (ends _ _ _ _ _ _ _ _ _ c.requires.phase_value
+      (rw (c.from-from.ensures, c.from-2.ensures, c.from-free.ensures) at c.appending-s.ensures.1)),
 )

@@ -5,8 +5,8 @@ use Rattle.ahead.proofs.Strides.{fewer, small}
 use Rattle.in_order.proofs.Sweeps.{at_roots}
 use Rattle.in_order.proofs.roots.Goals as goal
 
-pub overflow_sub-x : goal.overflow_sub-x
-overflow_sub-x c =
+pub overflow_sub-from : goal.overflow_sub-from
+overflow_sub-from c =
     let g = at_roots _ _ _ _ _ c.requires.passes c.requires.phase_value in omega arith
 
 pub shading-shaded-requires : goal.shading-shaded-requires
@@ -28,9 +28,9 @@ pub returns : goal.returns
 returns c =
     let g = at_roots _ _ _ _ _ c.requires.passes c.requires.phase_value in (
       omega arith,
-      rw c.rooted.ensures
-          (c.shading-shaded.ensures.1.leads _ _ _ c.requires.passes
+      rw (c.rooted.ensures, c.from-from.ensures)
+          ((rw c.from-from.ensures at c.shading-shaded.ensures.1).leads _ _ _ c.requires.passes
           c.requires.phase_value (fewer _ _ _
-          c.least-near.ensures.0 c.requires.room)
+          (omega arith) c.requires.room)
           (omega arith)),
     )

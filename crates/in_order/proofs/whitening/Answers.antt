@@ -1,24 +1,24 @@
 -- `whitening` meets its contract: before each turn the steps that were made lead from the start to
--- s. A black node is made white, which is one step more; any other ends the loop.
-use mathlib.Core.Path.{refl}
+-- i. A black node is made white, which is one step more; any other ends the loop.
+use mathlib.Core.Path.{refl, ◌≡◌}
 use lib.ListN.{length-set}
 use native.Mathlib.Omega.{arith}
 use Rattle.in_order.proofs.Sweeps.{whitens_none, whitens_more}
 use Rattle.in_order.proofs.whitening.Goals as goal
 
-pub loop-s-init : goal.loop-s-init
-loop-s-init c = (refl, c.requires.i_le_end, whitens_none _ _ _)
+pub loop-i-init : goal.loop-i-init
+loop-i-init c = (refl, whitens_none _ _ _)
 
-pub returns-then-colour-i-ne2 : goal.returns-then-colour-i-ne2
-returns-then-colour-i-ne2 c =
-    let inv = c.loop-s.invariant in (inv.1, inv.2)
+pub returns-then-colour-i-ne-BLACK : goal.returns-then-colour-i-ne-BLACK
+returns-then-colour-i-ne-BLACK c = (omega arith, c.loop-i.invariant.1)
 
-pub loop-s-preserved : goal.loop-s-preserved
-loop-s-preserved c = (
+pub loop-i-preserved : goal.loop-i-preserved
+loop-i-preserved c = (
   simp length-set (omega arith),
-  omega arith,
-  whitens_more _ _ _ _ _ _ c.loop-s.invariant.2 (omega arith) refl refl refl (omega arith),
+  whitens_more _ _ _ _ _ _ c.loop-i.invariant.1 (omega arith) refl refl refl (omega arith),
 )
 
 pub returns : goal.returns
-returns c = let inv = c.loop-s.invariant in (inv.1, inv.2)
+returns c =
+    let at_end : c.loop-i.i ≡ c.args.end = omega arith in
+    (omega arith, rw at_end at c.loop-i.invariant.1)

@@ -6,8 +6,8 @@ use Rattle.in_use.proofs.hurt_side.Goals as goal
 
 pub returns-then-bad_edge : goal.returns-then-bad_edge
 returns-then-bad_edge c = λ right h.
-    first_left _ _ right _ (sym c.if-bad_edge.true ∙ c.bad_edge.ensures)
+    first_left _ _ right _ (rw c.from.ensures at (sym c.if-bad_edge.true ∙ c.bad_edge.ensures))
 
-pub returns : goal.returns
-returns c = λ right h.
-    first_right _ _ right _ (sym c.if-bad_edge.false ∙ c.bad_edge.ensures) h
+pub returns-else-bad_edge : goal.returns-else-bad_edge
+returns-else-bad_edge c = λ right h.
+    first_right _ _ right _ (rw c.from.ensures at (sym c.if-bad_edge.false ∙ c.bad_edge.ensures)) h

@@ -10,10 +10,16 @@ pub returns-then-code-ne0 : goal.returns-then-code-ne0
 returns-then-code-ne0 c =
     rw c.refused.ensures (in_use_refused _ _ c.check-code.ensures c.if-code-ne0.true)
 
-pub count-requires : goal.count-requires
-count-requires c =
+pub invariant_of-count : goal.invariant_of-count
+invariant_of-count c =
     let g = good _ _ _ _ (sym c.if-code-ne0.false ∙ c.check-code.ensures) in
-    omega arith
+    record {
+      m_le_most_nodes = omega arith;
+      r_le_most_slots = omega arith;
+      r_bound = omega arith;
+      left_len = omega arith;
+      right_len = omega arith;
+    }
 
 pub returns : goal.returns
 returns c =

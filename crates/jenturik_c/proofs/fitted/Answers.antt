@@ -1,13 +1,22 @@
--- The test is the definition's; a number below the largest of 32 bits fits.
-use borrow.Author.Rules.{rules}
-use Rattle.base.proofs.Tests.{tests}
+-- A number of 32 bits is what `try_from` answers, and no other is below the largest.
+use Prim.Native.Nat.{ℕ, ◌<◌}
+use native.Mathlib.Omega.{arith}
+use mathlib.Core.Path.{◌≡◌, refl, ◌∙◌}
+use Rattle.std.specs.Prelude.{OkIff}
+use Rattle.std.specs.Result.{result_unwrap_or}
+use Rattle.std.specs.declared.result.Result.{Result}
+use Rattle.std.specs.declared.result.Result.TheVariants.{Ok, Err}
+use Rattle.base.proofs.Tests.{split}
 use Rattle.jenturik_c.specs.Face.{fitted}
 use Rattle.jenturik_c.proofs.fitted.Goals as goal
 
-pub returns-then-n-lt4294967295 : goal.returns-then-n-lt4294967295
+fits : {E : Type 0} (r : Result ℕ E) (n : ℕ) → OkIff r (n < 4294967296) n
+    → result_unwrap_or r 4294967295 ≡ fitted n
 unfolding fitted
-returns-then-n-lt4294967295 c = search (tests, rules) depth 12
+fits (Ok x) n h =
+    split (λ (m : ℕ). x ≡ m) _ _ _ (λ q. h.1) (λ q. grind arith)
+fits (Err e) n h =
+    split (λ (m : ℕ). 4294967295 ≡ m) _ _ _ (λ q. grind arith) (λ q. refl)
 
 pub returns : goal.returns
-unfolding fitted
-returns c = search (tests, rules) depth 12
+returns c = c.unwrap_or.ensures ∙ fits _ _ c.try_from.ensures

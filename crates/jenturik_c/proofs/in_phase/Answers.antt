@@ -30,12 +30,12 @@ returns-then-code-ne0 c =
     record {
       words_value =
           faces _ _ _ _ _ _ _ _ _ given.passing.words given.passing.rec _ c.phase_step-made.result
-          _ made.colour_value same c.tell_narrow.ensures.result_value;
+          _ made.colour_value same c.tell.ensures.result_value;
       true_value = given.passing.words;
       changed_value =
           faces_count _ _ _ _ _ given.passing.words given.passing.rec _ _
-          (c.tell_narrow.ensures.changed_value ∙ made.changed_value);
-      narrow = c.tell_narrow.ensures.narrow;
+          (c.tell.ensures.changed_value ∙ made.changed_value);
+      narrow = c.tell.ensures.narrow;
     }
 
 pub put_step-requires : goal.put_step-requires
@@ -62,10 +62,10 @@ returns c =
     record {
       words_value =
           faces _ _ _ _ _ _ _ _ _ given.passing.words given.passing.rec _ c.phase_step-made.result
-          _ made.colour_value c.put_step.ensures.words_value c.tell_narrow-2.ensures.result_value;
+          _ made.colour_value c.put_step.ensures.words_value c.tell-2.ensures.result_value;
       true_value = c.put_step.ensures.true_value_2;
       changed_value =
           faces_count _ _ _ _ _ given.passing.words given.passing.rec _ _
-          (c.tell_narrow-2.ensures.changed_value ∙ made.changed_value);
-      narrow = c.tell_narrow-2.ensures.narrow;
+          (c.tell-2.ensures.changed_value ∙ made.changed_value);
+      narrow = c.tell-2.ensures.narrow;
     }

@@ -6,7 +6,7 @@ pub returns : goal.returns
 returns c = record {
   words_value =
       shows _ c.fresh-made.result _ _ _ _ _ c.fresh-made.ensures.colour_value
-      c.words_of-v.ensures.value c.tell.ensures.result_value;
-  true_value = c.words_of-v.ensures.true_value;
+      c.words_of.ensures.value c.tell.ensures.result_value;
+  true_value = c.words_of.ensures.true_value;
   changed_value = c.tell.ensures.changed_value;
 }

@@ -1,53 +1,41 @@
--- A code that the words are given refuses the call. Else the step is made over the record that the
--- words are, which passes: its contract is the face's, and the record's words are written back.
-use mathlib.Core.Path.{refl, ap, ◌∙◌}
-use Rattle.jenturik_c.specs.Face.{told_of}
+-- Words that do not pass refuse the call. Else the step is made over the record that the words are:
+-- its contract is the face's, and the record's words are written back.
+use mathlib.Core.Path.{refl, ◌∙◌}
 use Rattle.jenturik_c.proofs.Faces.{faces, faces_count}
 use Rattle.jenturik_c.proofs.Changed.{link_owed}
-use Rattle.jenturik_c.proofs.Judges.{a_record, passes, refuses, refuses_count, link_refuses}
+use Rattle.jenturik_c.proofs.Judges.{refuses, refuses_count, link_refuses}
 use Rattle.jenturik_c.proofs.jenturik_link.Goals as goal
 
-pub returns-then-code-ne0 : goal.returns-then-code-ne0
-returns-then-code-ne0 c =
-    let code = c.judge-code.ensures in
-    let some = c.if-code-ne0.true in
+pub returns-in-Err : goal.returns-in-Err
+returns-in-Err c =
+    let barred = c.in-Err.ensures.err in
     record {
       words_value =
-          refuses _ _ _ _ _ code some _ (link_refuses _ _ _) _
-          (c.tell.ensures.result_value ∙ ap told_of c.refused.ensures);
+          refuses _ _ _ _ _ barred _ (link_refuses _ _ _) _ c.refused.ensures.result_value;
       stays = λ h. h;
       changed_value =
-          refuses_count _ _ _ _ _ code some _ (link_refuses _ _ _) _ c.tell.ensures.changed_value;
+          refuses_count _ _ _ _ _ barred _ (link_refuses _ _ _) _ c.refused.ensures.changed_value;
     }
-
-pub record_of-requires : goal.record_of-requires
-record_of-requires c = a_record _ _ _ _ _ c.judge-code.ensures c.if-code-ne0.false
-
-pub link_passed-made-requires : goal.link_passed-made-requires
-link_passed-made-requires c =
-    passes _ _ _ _ _ c.judge-code.ensures c.if-code-ne0.false _ c.record_of.ensures
 
 pub put_owed-requires : goal.put_owed-requires
 put_owed-requires c =
-    let words = a_record _ _ _ _ _ c.judge-code.ensures c.if-code-ne0.false in
-    let same = c.record_of.ensures in
+    let x = c.in-Ok.ensures.ok in
     let made = c.link_passed-made in
     record {
-      true_value = words;
-      x_value = link_owed _ _ same _ _ _ made.result _ refl _ _ _ made.ensures.colour_value;
+      true_value = x.words;
+      x_value = link_owed _ _ x.rec _ _ _ made.result _ refl _ _ _ made.ensures.colour_value;
     }
 
 pub returns : goal.returns
 returns c =
-    let same = c.record_of.ensures in
-    let words = a_record _ _ _ _ _ c.judge-code.ensures c.if-code-ne0.false in
+    let x = c.in-Ok.ensures.ok in
     let done = c.link_passed-made.ensures in
     record {
       words_value =
-          faces _ _ _ _ _ _ _ _ _ words same _ c.link_passed-made.result _ done.colour_value
-          c.put_owed.ensures.words_value c.tell-2.ensures.result_value;
+          faces _ _ _ _ _ _ _ _ _ x.words x.rec _ c.link_passed-made.result _ done.colour_value
+          c.put_owed.ensures.words_value c.tell.ensures.result_value;
       stays = λ h. c.put_owed.ensures.true_value_2;
       changed_value =
-          faces_count _ _ _ _ _ words same _ _
-          (c.tell-2.ensures.changed_value ∙ done.changed_value);
+          faces_count _ _ _ _ _ x.words x.rec _ _
+          (c.tell.ensures.changed_value ∙ done.changed_value);
     }

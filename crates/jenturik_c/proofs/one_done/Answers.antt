@@ -1,10 +1,15 @@
 -- The test is the definition's.
-use borrow.Author.Rules.{rules}
-use Rattle.base.proofs.Tests.{tests}
+use mathlib.Core.Bool.{Bool, true, false}
+use mathlib.Core.Path.{◌≡◌, refl, ◌∙◌}
+use lib.Dec.{eqb}
+use Rattle.base.specs.Choice.{pick}
+use Rattle.std.specs.Int.{from_bool}
 use Rattle.jenturik_c.proofs.one_done.Goals as goal
 
-pub returns-then-code-eq0 : goal.returns-then-code-eq0
-returns-then-code-eq0 c = search (tests, rules) depth 12
+counts : (b : Bool) → from_bool b ≡ pick b 1 0
+unfolding pick
+counts true = refl
+counts false = refl
 
 pub returns : goal.returns
-returns c = search (tests, rules) depth 12
+returns c = c.from.ensures ∙ counts (eqb c.args.code 0)

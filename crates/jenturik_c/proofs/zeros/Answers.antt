@@ -1,21 +1,15 @@
--- Each word that is read is what one test of the definition asks for.
+-- `all` answers what the definition tests of each word.
+use mathlib.Core.Path.{◌∙◌}
+use lib.Dec.{eqb}
 use borrow.Author.Rules.{rules}
-use Rattle.base.proofs.Tests.{tests}
-use Rattle.jenturik_c.specs.Flat.{zeros}
+use borrow.Author.Tests.{tests}
+use Rattle.std.proofs.lemmas.Iterator.{YieldsList-from_slice}
+use Rattle.std.proofs.lemmas.Iterator.Search.{all_from_yields_List}
+use Rattle.jenturik_c.proofs.Flats.{all_zero}
 use Rattle.jenturik_c.proofs.zeros.Goals as goal
 
-pub returns-then-steps-n-ne0 : goal.returns-then-steps-n-ne0
-unfolding zeros
-returns-then-steps-n-ne0 c = search (tests, rules) depth 12
-
-pub returns-then-steps-n-ne0-2 : goal.returns-then-steps-n-ne0-2
-unfolding zeros
-returns-then-steps-n-ne0-2 c = search (tests, rules) depth 12
-
-pub returns-then-steps-n-ne0-3 : goal.returns-then-steps-n-ne0-3
-unfolding zeros
-returns-then-steps-n-ne0-3 c = search (tests, rules) depth 12
-
 pub returns : goal.returns
-unfolding zeros
-returns c = search (tests, rules) depth 12
+returns c =
+    all_from_yields_List (λ n. eqb n 0) _ _ _ c.all.ensures.ran
+    (YieldsList-from_slice _ c.iter.ensures.rest) (λ x b q k. search (rules, tests))
+    ∙ all_zero _ c.requires

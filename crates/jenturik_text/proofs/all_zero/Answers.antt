@@ -1,21 +1,16 @@
--- Each return is a case of the definition.
+-- `all` answers what the definition tests of each word.
+use native.Mathlib.Omega.{arith}
+use mathlib.Core.Path.{◌∙◌}
+use lib.Dec.{eqb}
 use borrow.Author.Rules.{rules}
-use Rattle.base.proofs.Tests.{tests}
-use Rattle.jenturik_text.specs.Words.{all_zero}
+use borrow.Author.Tests.{tests}
+use Rattle.std.proofs.lemmas.Iterator.{YieldsList-from_slice}
+use Rattle.std.proofs.lemmas.Iterator.Search.{all_from_yields_List}
+use Rattle.jenturik_text.proofs.Parts.{last_zero}
 use Rattle.jenturik_text.proofs.all_zero.Goals as goal
 
-pub returns-then-a-ne0 : goal.returns-then-a-ne0
-unfolding all_zero
-returns-then-a-ne0 c = search (tests, rules) depth 12
-
-pub returns-then-b-ne0 : goal.returns-then-b-ne0
-unfolding all_zero
-returns-then-b-ne0 c = search (tests, rules) depth 12
-
-pub returns-then-c-ne0 : goal.returns-then-c-ne0
-unfolding all_zero
-returns-then-c-ne0 c = search (tests, rules) depth 12
-
 pub returns : goal.returns
-unfolding all_zero
-returns c = search (tests, rules) depth 12
+returns c =
+    all_from_yields_List (λ n. eqb n 0) _ _ _ c.all.ensures.ran
+    (YieldsList-from_slice _ c.iter.ensures.rest) (λ x b q k. search (rules, tests))
+    ∙ last_zero c.args.w (omega arith)

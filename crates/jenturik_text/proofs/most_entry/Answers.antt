@@ -8,6 +8,6 @@ pub returns-then-tag-eq2 : goal.returns-then-tag-eq2
 unfolding most_entry
 returns-then-tag-eq2 c = search (tests, rules) depth 12
 
-pub returns : goal.returns
+pub returns-else-tag-eq2 : goal.returns-else-tag-eq2
 unfolding most_entry
-returns c = search (tests, rules) depth 12
+returns-else-tag-eq2 c = search (tests, rules) depth 12

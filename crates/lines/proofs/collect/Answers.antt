@@ -3,10 +3,6 @@
 use Rattle.lines.proofs.Collects.{nothing}
 use Rattle.lines.proofs.collect.Goals as goal
 
-pub returns-then-n-gt0 : goal.returns-then-n-gt0
-returns-then-n-gt0 c =
-    c.collect_some.ensures
-
 pub returns : goal.returns
 returns c =
     nothing _ _ _ c.if-n-gt0.false c.collect_many-none.ensures

@@ -17,18 +17,6 @@ overflow_add-most c =
     let b = most _ _ _ c.collect_many-last.ensures in
     omega (arith, c.requires)
 
-pub shape_of-left : goal.shape_of-left
-shape_of-left c =
-    omega (arith, c.left-1, c.left-2-1)
-
-pub shape_of-right : goal.shape_of-right
-shape_of-right c =
-    omega (arith, c.right-1, c.right-2-1)
-
-pub shape_of-colour : goal.shape_of-colour
-shape_of-colour c =
-    omega (arith, c.colour-1, c.colour-2-1)
-
 pub returns : goal.returns
 returns c =
     last _ _ _ c.requires _ _ c.collect_many-most.ensures

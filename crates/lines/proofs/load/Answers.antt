@@ -5,4 +5,5 @@ use Rattle.lines.proofs.load.Goals as goal
 pub returns : goal.returns
 unfolding loaded
 returns c =
-    rw (← c.load.ensures.colour_value) (c.answered.ensures _ _ _)
+    let e = rw (c.from-m.ensures, c.from-r.ensures) at c.load.ensures.colour_value in
+    rw (← e) (c.from.ensures _ _ _)

@@ -8,6 +8,6 @@ pub returns-then-done-eq0 : goal.returns-then-done-eq0
 unfolding start_of
 returns-then-done-eq0 c = search (tests, rules) depth 12
 
-pub returns : goal.returns
+pub returns-else-done-eq0 : goal.returns-else-done-eq0
 unfolding start_of
-returns c = search (tests, rules) depth 12
+returns-else-done-eq0 c = search (tests, rules) depth 12

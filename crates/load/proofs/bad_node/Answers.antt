@@ -7,10 +7,12 @@ use Rattle.load.proofs.bad_node.Goals as goal
 
 pub returns-then-bad_given : goal.returns-then-bad_given
 unfolding any_edge
-returns-then-bad_given c = or_first _ _ (sym c.if-bad_given.true ∙ c.bad_given.ensures)
+returns-then-bad_given c =
+    let bad = c.if-bad_given.true in
+    bad ∙ or_first _ _ (sym bad ∙ c.bad_given.ensures)
 
-pub returns : goal.returns
+pub returns-else-bad_given : goal.returns-else-bad_given
 unfolding any_edge
-returns c =
+returns-else-bad_given c =
     or_skip _ _ _ (sym c.if-bad_given.false
-    ∙ c.bad_given.ensures) (or_last _ _ c.bad_given-2.ensures)
+    ∙ c.bad_given.ensures) (or_last _ _ c.bad_given-else-bad_given.ensures)

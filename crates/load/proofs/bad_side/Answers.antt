@@ -8,6 +8,6 @@ pub returns-then-bad_given : goal.returns-then-bad_given
 returns-then-bad_given c = λ rights h.
     first_left _ _ rights _ (sym c.if-bad_given.true ∙ c.bad_given.ensures)
 
-pub returns : goal.returns
-returns c = λ rights h.
+pub returns-else-bad_given : goal.returns-else-bad_given
+returns-else-bad_given c = λ rights h.
     first_right _ _ rights _ (sym c.if-bad_given.false ∙ c.bad_given.ensures) h

@@ -1,82 +1,64 @@
 -- `chain` meets its contract: the walk from n on is the walk from FREE on, and the length is k and
 -- what follows n. Edges are below m, so it stays in the table.
-use mathlib.Core.Path.{refl, sym, ◌∙◌}
+use mathlib.Core.Path.{sym, ◌∙◌}
 use native.Mathlib.Omega.{arith}
-use lib.ListN.{length-set}
 use Rattle.base.proofs.Tests.{tests}
 use borrow.Author.Rules.{rules}
-use Rattle.load.proofs.Laws.{chain_turn, chain_out, chain_start}
-use Rattle.load.proofs.Laws.{length_start, length_end, length_next}
+use Rattle.load.proofs.Laws.{chain_turn, chain_out}
+use Rattle.load.proofs.Laws.{length_end, length_next}
 use Rattle.load.proofs.chain.Goals as goal
+use Rattle.load.proofs.chain.Goals.{then-next-graph-via-then-next-graph}
+use Rattle.load.proofs.chain.Goals.{then-next-graph-via-else-next-graph+then-free-to-ne0}
 
-pub loop-k-init : goal.loop-k-init
-loop-k-init c = (omega arith, chain_start _ _ _ _ 0 _ _, length_start _ _ _ 0 _, refl)
-
-pub returns-then-right-at-ne0 : goal.returns-then-right-at-ne0
-returns-then-right-at-ne0 c =
-    record {
-      answer_value = rw (
-        c.broken.ensures,
-        c.loop-k.invariant.1,
-        chain_turn _ _ _ _ _ _ _ c.loop-k-test.true,
-      ) (search (tests, rules) depth 12);
-      free_value = rw c.broken.ensures (λ q. omega arith);
-    }
+pub returns-then-graph-at-ne0-clause-answer_value
+    : goal.returns-then-graph-at-ne0-clause-answer_value
+returns-then-graph-at-ne0-clause-answer_value c =
+    let right = rw c.from-at.ensures at c.if-graph-at-ne0.true in
+    rw (c.loop-k.invariant.rest, chain_turn _ _ _ _ _ _ _ c.loop-k-test.true)
+    (search (tests, rules) depth 12)
 
 pub returns-then-next-eq0 : goal.returns-then-next-eq0
 returns-then-next-eq0 c =
+    let right = rw c.from-at.ensures at c.if-graph-at-ne0.false in
+    let end = rw c.from-at.ensures at c.if-next-eq0.true in
     record {
-      answer_value = rw (c.loop-k.invariant.1, chain_turn _ _ _ _ _ _ _ c.loop-k-test.true)
+      answer_value = rw (c.loop-k.invariant.rest, chain_turn _ _ _ _ _ _ _ c.loop-k-test.true)
           (search (tests, rules) depth 12);
-      free_value = λ q. length_end _ _ _ _ _ _ c.loop-k.invariant.2 c.loop-k-test.true
-          c.if-next-eq0.true;
+      free_value = length_end _ _ _ _ _ _ c.loop-k.invariant.count c.loop-k-test.true end;
     }
 
-pub returns-then-next-r : goal.returns-then-next-r
-returns-then-next-r c =
+pub returns-then-next-graph : goal.returns-then-next-graph
+returns-then-next-graph c =
+    let right = rw c.from-at.ensures at c.if-graph-at-ne0.false in
+    let on = rw c.from-at.ensures at c.if-next-eq0.false in
     record {
-      answer_value = rw (
-        c.broken-then-next-r.ensures,
-        c.loop-k.invariant.1,
-        chain_turn _ _ _ _ _ _ _ c.loop-k-test.true,
-      ) (search (tests, rules) depth 12);
-      free_value = rw c.broken-then-next-r.ensures (λ q. omega arith);
+      answer_value = rw (c.loop-k.invariant.rest, chain_turn _ _ _ _ _ _ _ c.loop-k-test.true)
+          (elim c.then-next-graph.branch [
+            | then-next-graph-via-then-next-graph w ↦
+                let low = rw c.from-at.ensures at w.if-next-graph.true in
+                search (tests, rules) depth 12
+            | then-next-graph-via-else-next-graph+then-free-to-ne0 w ↦
+                let low = rw c.from-at.ensures at w.if-next-graph.false in
+                let marked = rw (c.from-to.ensures, c.from-at.ensures) at w.if-free-to-ne0.true in
+                search (tests, rules) depth 12
+          ]);
+      free_value = tt;
     }
-
-pub overflow_cast-to : goal.overflow_cast-to
-overflow_cast-to c = omega (arith, c.requires.below c.loop-k.n)
-
-pub bounds-free-to : goal.bounds-free-to
-bounds-free-to c = omega (arith, c.requires.below c.loop-k.n)
-
-pub returns-then-free-to-ne0 : goal.returns-then-free-to-ne0
-returns-then-free-to-ne0 c =
-    record {
-      answer_value = rw (
-        c.broken-then-free-to-ne0.ensures,
-        c.loop-k.invariant.1,
-        chain_turn _ _ _ _ _ _ _ c.loop-k-test.true,
-      ) (search (tests, rules) depth 12);
-      free_value = rw c.broken-then-free-to-ne0.ensures (λ q. omega arith);
-    }
-
-pub bounds-free-to-in-loop-k : goal.bounds-free-to-in-loop-k
-bounds-free-to-in-loop-k c = omega (arith, c.requires.below c.loop-k.n)
 
 pub loop-k-preserved : goal.loop-k-preserved
-loop-k-preserved c = (
-  omega (arith, c.requires.below c.loop-k.n),
-  c.loop-k.invariant.1
-      ∙ sym (rw (chain_turn _ _ _ _ _ _ _ c.loop-k-test.true)
-      (search (tests, rules) depth 12)),
-  length_next _ _ _ _ _ _ c.loop-k.invariant.2 c.loop-k-test.true
-      c.if-next-eq0.false,
-  simp length-set (omega arith),
-)
+loop-k-preserved c =
+    let right = rw c.from-at.ensures at c.if-graph-at-ne0.false in
+    let on = rw c.from-at.ensures at c.if-next-eq0.false in
+    let high = rw c.from-at.ensures at c.if-next-graph.false in
+    let bare = rw (c.from-to.ensures, c.from-at.ensures) at c.if-free-to-ne0.false in
+    rw (c.from-to.ensures, c.from-at.ensures) record {
+      inside = omega (arith, c.requires.below c.loop-k.n);
+      rest = c.loop-k.invariant.rest
+          ∙ sym (rw (chain_turn _ _ _ _ _ _ _ c.loop-k-test.true)
+          (search (tests, rules) depth 12));
+      count = length_next _ _ _ _ _ _ c.loop-k.invariant.count c.loop-k-test.true on;
+    }
 
-pub returns : goal.returns
-returns c = record {
-  answer_value = rw c.broken-2.ensures
-      (chain_out _ _ _ _ _ _ _ (omega arith) ∙ sym c.loop-k.invariant.1);
-  free_value = rw c.broken-2.ensures (λ q. omega arith);
-}
+pub returns-clause-answer_value : goal.returns-clause-answer_value
+returns-clause-answer_value c =
+    chain_out _ _ _ _ _ _ _ (omega arith) ∙ sym c.loop-k.invariant.rest

@@ -3,17 +3,15 @@
 use mathlib.Core.Path.{◌≡◌}
 use mathlib.Core.List.{[], ◌∷◌}
 use Prim.Native.Nat.{◌+◌, ◌-◌, ◌<◌}
-use lib.ListN.{length}
 use Rattle.rules.specs.Load.{chain, chain_length}
 use Rattle.load.proofs.chain.Given as goal
 
 abbrev pub invariant-loop-k : goal.invariant-loop-k
-invariant-loop-k l = (l.n < l.m)
-    × (chain l.r (l.left ∷ l.right ∷ []) l.m l.initial.free 1
-    ≡ chain l.r (l.left ∷ l.right ∷ []) (l.m - l.k) l.free l.n)
-    × (chain_length (l.left ∷ l.right ∷ []) l.m 1
-    ≡ l.k + chain_length (l.left ∷ l.right ∷ []) (l.m - l.k) l.n)
-    × (length l.free ≡ length l.initial.free)
-
-abbrev pub decreases-loop-k : goal.decreases-loop-k
-decreases-loop-k l = l.m - l.k
+invariant-loop-k l =
+    let m = l.graph.m in
+    let es = l.graph.left.now ∷ l.graph.right.now ∷ [] in
+    record {
+      inside : l.n < m;
+      rest : chain l.graph.r es m l.fn.free 1 ≡ chain l.graph.r es (m - l.k) l.free l.n;
+      count : chain_length es m 1 ≡ l.k + chain_length es (m - l.k) l.n;
+    }

@@ -1,11 +1,10 @@
 -- `first_shared` meets its contract: marked are the nodes that have a number in the definition's
 -- numbering.
-use mathlib.Core.Path.{◌∙◌}
+use mathlib.Core.Path.{ap, ◌∙◌}
+use Rattle.load.specs.GoodEdges.{found}
 use Rattle.load.proofs.Answers.{shared_same}
 use Rattle.load.proofs.first_shared.Goals as goal
 
-pub meet-requires-clause-by_index : goal.meet-requires-clause-by_index
-meet-requires-clause-by_index c = c.requires.by_index
-
 pub returns : goal.returns
-returns c = c.lowest_shared.ensures ∙ shared_same c.meet.ensures _
+returns g c =
+    c.lowest_shared.ensures ∙ ap (found c.args.graph.m) (shared_same c.meet.ensures _)

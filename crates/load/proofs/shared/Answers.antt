@@ -4,10 +4,14 @@ use Rattle.rules.specs.Load.{is_shared}
 use borrow.Author.Rules.{rules}
 use Rattle.load.proofs.shared.Goals as goal
 
-pub returns-then-free-at-eq0 : goal.returns-then-free-at-eq0
+pub returns-then-free-at-ne0 : goal.returns-then-free-at-ne0
 unfolding is_shared
-returns-then-free-at-eq0 c = search (tests, rules) depth 12
+returns-then-free-at-ne0 c =
+    let free = rw c.from-at.ensures at c.if-free-at-ne0.true in
+    rw c.from-at.ensures (search (tests, rules) depth 12)
 
-pub returns : goal.returns
+pub returns-else-free-at-ne0 : goal.returns-else-free-at-ne0
 unfolding is_shared
-returns c = search (tests, rules) depth 12
+returns-else-free-at-ne0 c =
+    let none = rw c.from-at.ensures at c.if-free-at-ne0.false in
+    rw c.from-at.ensures (search (tests, rules) depth 12)

@@ -8,28 +8,26 @@ use Rattle.meet.proofs.meet.Goals as goal
 pub visit_slots-requires-clause-by_index : goal.visit_slots-requires-clause-by_index
 visit_slots-requires-clause-by_index c = c.requires.by_index
 
-pub visit_rest-seen-requires-clause-going : goal.visit_rest-seen-requires-clause-going
-visit_rest-seen-requires-clause-going c =
-    let v = c.visit_slots.ensures in record { some = _; shown = v; hurt = hurt_none _ v.kept }
-
-pub returns-then-tail-next : goal.returns-then-tail-next
-unfolding meet
-returns-then-tail-next c =
+pub visit_rest-walk-requires-clause-going : goal.visit_rest-walk-requires-clause-going
+visit_rest-walk-requires-clause-going c =
     let v = c.visit_slots.ensures in
-    gone_told (c.visit_rest-seen.ensures.gone _ v (hurt_none _ v.kept)) c.if-tail-next.true
+    rw c.from.ensures record { some = _; shown = v; hurt = hurt_none _ v.kept }
+
+pub returns-then-walk : goal.returns-then-walk
+unfolding meet
+returns-then-walk c =
+    let v = c.visit_slots.ensures in
+    gone_told (c.visit_rest-walk.ensures.gone _ (rw c.from.ensures v) (hurt_none _ v.kept))
+    c.if-walk.true
 
 pub visit_many-requires : goal.visit_many-requires
 visit_many-requires c =
     let v = c.visit_slots.ensures in
-    let e = c.visit_rest-seen.ensures in
-    let g = e.gone _ v (hurt_none _ v.kept) in
+    let e = c.visit_rest-walk.ensures in
+    let g = e.gone _ (rw c.from.ensures v) (hurt_none _ v.kept) in
     record {
-      le_m = omega (arith, c.requires);
-      m_le_most_nodes = omega (arith, c.requires);
-      left_len = omega (arith, c.requires);
-      right_len = omega (arith, c.requires);
       m_in_bounds = omega (arith, c.requires);
-      le_k = omega (arith, e.le_next);
+      le_next = omega (arith, e.le_next);
       start_in_bounds = omega (arith, e.tail_in_bounds);
       going = record { some = g.at; shown = g.shown; hurt = g.hurt };
     }
@@ -38,5 +36,5 @@ pub returns : goal.returns
 unfolding meet
 returns c =
     let v = c.visit_slots.ensures in
-    let g = c.visit_rest-seen.ensures.gone _ v (hurt_none _ v.kept) in
+    let g = c.visit_rest-walk.ensures.gone _ (rw c.from.ensures v) (hurt_none _ v.kept) in
     rw g.rest (c.visit_many.ensures g.at g.shown g.hurt)

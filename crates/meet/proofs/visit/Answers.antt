@@ -1,9 +1,10 @@
 -- `visit` meets its contract: an edge to NIL and a bad one lead nowhere. The mark of any other node
 -- says whether it has a number; what is written behind the queue's end is no part of it.
-use mathlib.Core.Path.{refl, sym, ◌∙◌}
+use mathlib.Core.Path.{ap, refl, sym, ◌∙◌}
 use native.Mathlib.Omega.{arith}
 use Rattle.base.proofs.Tests.{pick_yes, pick_no}
 use Rattle.rules.specs.Meet.{num_of}
+use Rattle.std.specs.Prelude.{Some}
 use Rattle.reach.proofs.Counts.{one_le}
 use Rattle.reach.proofs.Kept.{not_bad}
 use Rattle.meet.proofs.Shows.{nil_visit, bad_visit, node_good, shown_visit}
@@ -21,7 +22,7 @@ returns-then-bad_edge c =
     let bad = sym c.if-bad_edge.true ∙ c.bad_edge.ensures in
     record {
       tail_bound = omega arith;
-      hurt_value = pick_yes _ _ _ _ bad c.lower.ensures;
+      hurt_value = pick_yes _ _ _ _ bad (ap Some c.lowest.ensures);
       shown = λ s v. rw (bad_visit _ _ s bad) v;
     }
 
@@ -35,16 +36,10 @@ bounds-marks-at-2 c =
     let good = sym c.if-bad_edge.false ∙ c.bad_edge.ensures in
     omega (arith, not_bad _ _ (sym good))
 
-pub overflow_cast-end : goal.overflow_cast-end
-overflow_cast-end c =
+pub overflow_sub-tail : goal.overflow_sub-tail
+overflow_sub-tail c =
     let w = c.requires.shows in
-    let e = c.args.e in
-    omega (arith, w.shown.mark e, one_le (num_of w.some e))
-
-pub overflow_sub-end : goal.overflow_sub-end
-overflow_sub-end c =
-    let w = c.requires.shows in
-    let e = c.args.e in
+    let e = c.from-at.result in
     omega (arith, w.shown.mark e, one_le (num_of w.some e))
 
 pub returns : goal.returns
@@ -54,6 +49,6 @@ returns c =
     record {
       tail_bound = omega arith;
       hurt_value = pick_no _ _ _ _ good refl;
-      shown = λ s v. shown_visit v _ good some (omega (arith, not_bad _ _ (sym good)))
-          (omega arith);
+      shown = λ s v. rw (c.from.ensures, c.from-at.ensures) (shown_visit v _ good some
+          (omega (arith, not_bad _ _ (sym good))) (omega arith));
     }

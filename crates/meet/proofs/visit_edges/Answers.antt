@@ -25,6 +25,7 @@ returns c =
     let f = c.visit.ensures in
     record {
       tail_bound = omega (arith, e.tail_bound, f.tail_bound);
-      hurt_value = hurt_both _ _ _ _ _ _ e.hurt_value f.hurt_value;
-      shown = λ s v. f.shown _ (e.shown s v);
+      hurt_value = hurt_both _ _ _ _ _ _ (rw c.from-at.ensures at e.hurt_value)
+          (rw c.from-at.ensures at f.hurt_value);
+      shown = λ s v. (simp c.from-at.ensures at f.shown) _ ((simp c.from-at.ensures at e.shown) s v);
     }

@@ -9,32 +9,36 @@ use Rattle.meet.proofs.Hurts.{gone_none, gone_next}
 use Rattle.meet.proofs.visit_rest.Goals as goal
 
 pub loop-next-init : goal.loop-next-init
-loop-next-init c = (omega arith, omega arith, refl, refl, λ s v u. gone_none v u)
+loop-next-init c = record {
+  low = omega arith;
+  room = omega arith;
+  gone = λ s v u. gone_none v u;
+}
 
-pub returns-then-order-tail-lt2 : goal.returns-then-order-tail-lt2
-returns-then-order-tail-lt2 c =
+pub returns-then-order-met-lt2 : goal.returns-then-order-met-lt2
+returns-then-order-met-lt2 c =
     let w = c.requires.going in
-    let g = c.loop-next.invariant.4 w.some w.shown w.hurt in
+    let inv = c.loop-next.invariant in
+    let g = inv.gone w.some w.shown w.hurt in
     let t = top g.shown.kept (omega arith) in
     record {
       le_next = omega arith;
       tail_in_bounds = omega arith;
       tail_le_next = λ h. omega (arith, t, g.shown.end);
-      gone = c.loop-next.invariant.4;
+      gone = inv.gone;
     }
 
 pub visit_edges-met-requires : goal.visit_edges-met-requires
 visit_edges-met-requires c =
     let w = c.requires.going in
-    let g = c.loop-next.invariant.4 w.some w.shown w.hurt in
+    let inv = c.loop-next.invariant in
+    let g = inv.gone w.some w.shown w.hurt in
     let k = c.loop-next.next in
     let hi : k < g.at.tail = omega (arith, g.shown.end) in
     let n = node_inside g.shown.kept k (omega arith) hi in
     let q = g.shown.node k (omega arith) (omega arith) in
     record {
-      le_m = omega arith;
       n_in_bounds = omega (arith, n.1, q);
-      n_in_bounds_2 = omega (arith, n.1, q);
       m_in_bounds = omega arith;
       tail_in_bounds = omega arith;
       shows = record { some = g.at; shown = g.shown };
@@ -43,20 +47,20 @@ visit_edges-met-requires c =
 pub loop-next-smaller : goal.loop-next-smaller
 loop-next-smaller c =
     let w = c.requires.going in
-    let g = c.loop-next.invariant.4 w.some w.shown w.hurt in
+    let inv = c.loop-next.invariant in
+    let g = inv.gone w.some w.shown w.hurt in
     let t = top g.shown.kept (omega arith) in
     omega (arith, t, g.shown.end)
 
 pub loop-next-preserved : goal.loop-next-preserved
 loop-next-preserved c =
-    let e = c.visit_edges-met.ensures in (
-      omega arith,
-      omega (arith, e.tail_bound),
-      omega arith,
-      omega arith,
-      λ s v u. gone_next (c.loop-next.invariant.4 s v u) (omega arith) (omega arith) (omega arith)
-          _ _ _ _ _ refl e.shown e.hurt_value,
-    )
+    let e = c.visit_edges-met.ensures in
+    record {
+      low = omega arith;
+      room = omega (arith, e.tail_bound);
+      gone = λ s v u. gone_next (c.loop-next.invariant.gone s v u) (omega arith) (omega arith)
+          (omega arith) _ _ _ _ _ refl e.shown e.hurt_value;
+    }
 
 pub returns : goal.returns
 returns c =
@@ -64,5 +68,5 @@ returns c =
       le_next = omega arith;
       tail_in_bounds = omega arith;
       tail_le_next = λ h. omega arith;
-      gone = c.loop-next.invariant.4;
+      gone = c.loop-next.invariant.gone;
     }

@@ -2,7 +2,6 @@
 -- on comes to the same as what was left at the start, for any numbering that marks and queue stood
 -- for.
 use mathlib.Core.List.{[], ◌∷◌}
-use mathlib.Core.Path.{◌≡◌}
 use Prim.Native.Nat.{◌-◌, ◌≤◌}
 use lib.ListN.{length}
 use Rattle.rules.specs.Meet.{Met}
@@ -11,12 +10,15 @@ use Rattle.meet.proofs.visit_rest.Given as goal
 
 abbrev pub invariant-loop-next : goal.invariant-loop-next
 invariant-loop-next l =
-    (2 ≤ l.next) × (l.tail ≤ length l.order) × (length l.marks ≡ length l.initial.marks)
-    × (length l.order ≡ length l.initial.order)
-    × ((s : Met) → Shown l.m l.initial.marks l.initial.order l.start s
-    → Hurt l.m (l.left ∷ l.right ∷ []) s l.k l.least
-    → Gone l.m (l.left ∷ l.right ∷ []) l.k s l.marks l.order l.tail l.next l.hurt)
+    let start = l.fn.start in
+    let es = l.graph.left.now ∷ l.graph.right.now ∷ [] in
+    record {
+      low : 2 ≤ l.next;
+      room : l.met.tail ≤ length l.order;
+      gone : (s : Met) → Shown l.graph.m l.fn.marks l.fn.order start.met.tail s
+          → Hurt l.graph.m es s start.next start.met.hurt
+          → Gone l.graph.m es start.next s l.marks l.order l.met.tail l.next l.met.hurt;
+    }
 
 abbrev pub decreases-loop-next : goal.decreases-loop-next
-decreases-loop-next l =
-    l.m - l.next
+decreases-loop-next l = l.graph.m - l.next

@@ -6,10 +6,10 @@ use Rattle.rules.specs.Places.{turns_ok}
 use Rattle.rules.proofs.Walks.{two_sides}
 use Rattle.places.proofs.turns_ok.Goals as goal
 
-pub returns-then-p-gt-MOST_TURNS : goal.returns-then-p-gt-MOST_TURNS
+pub returns-then-p-le-MOST_TURNS : goal.returns-then-p-le-MOST_TURNS
 unfolding turns_ok
-returns-then-p-gt-MOST_TURNS c = search (tests, rules) depth 12
+returns-then-p-le-MOST_TURNS c = search (tests, two_sides, rules) depth 12
 
-pub returns : goal.returns
+pub returns-else-p-le-MOST_TURNS : goal.returns-else-p-le-MOST_TURNS
 unfolding turns_ok
-returns c = search (tests, two_sides, rules) depth 12
+returns-else-p-le-MOST_TURNS c = search (tests, rules) depth 12

@@ -1,4 +1,3 @@
--- Each return is a case of the definition.
 use mathlib.Core.Path.{refl, sym}
 use Rattle.base.proofs.Tests.{pick_yes, pick_no}
 use Rattle.record_words.specs.Words.{flagged}
@@ -6,8 +5,8 @@ use Rattle.record_words.proofs.flagged.Goals as goal
 
 pub returns-then-told : goal.returns-then-told
 unfolding flagged
-returns-then-told c = pick_yes _ _ _ _ (sym c.if-told.true) refl
+returns-then-told c = pick_yes _ _ _ _ (sym c.if-told.true) c.if-told.true
 
-pub returns : goal.returns
+pub returns-else-told : goal.returns-else-told
 unfolding flagged
-returns c = pick_no _ _ _ _ (sym c.if-told.false) refl
+returns-else-told c = pick_no _ _ _ _ (sym c.if-told.false) refl

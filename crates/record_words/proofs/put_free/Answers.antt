@@ -7,4 +7,7 @@ pub returns : goal.returns
 returns c =
     let r = c.requires in
     let both = free_put _ r.true_value c.args.x r.x_value (omega arith) (omega arith) in
-    record { words_value = both.0; true_value_2 = both.1 }
+    record {
+      words_value = rw (c.from.ensures, c.from-2.ensures) both.0;
+      true_value_2 = rw (c.from.ensures, c.from-2.ensures) both.1;
+    }

@@ -1,5 +1,6 @@
 -- `put_step` meets its contract: the words that are not stored are the same in both records.
 use native.Mathlib.Omega.{arith}
+use mathlib.Core.Path.{◌∙◌}
 use Rattle.rules.proofs.Phases.{tag_most}
 use Rattle.record_words.proofs.Widths.{words_are, owes_most}
 use Rattle.record_words.proofs.RoundTrip.{step_stored, owed_most}
@@ -10,8 +11,8 @@ returns c =
     let x = c.args.x in
     let r = c.requires in
     let both = words_are x _
-    (step_stored _ r.true_value x r.m_value r.r_value r.owed_value _ _ _ c.tag.ensures
-    c.position-position.ensures c.second-second.ensures)
+    (c.put_moved.ensures.words_value
+    ∙ step_stored _ r.true_value x r.m_value r.r_value r.owed_value)
     (omega (
       arith,
       tag_most x.phase,

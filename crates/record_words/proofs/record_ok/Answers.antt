@@ -15,12 +15,12 @@ returns-then-not-phase_ok c =
     ∙ phase_tests _ c.requires.true_value _ _ in
     every_here _ _ phase
 
-pub returns-then-not-owed_ok : goal.returns-then-not-owed_ok
+pub returns-then-not-node_ok : goal.returns-then-not-node_ok
 unfolding record_ok record_of
-returns-then-not-owed_ok c =
+returns-then-not-node_ok c =
     let phase = sym c.if-not-phase_ok.false ∙ c.phase_ok.ensures
     ∙ phase_tests _ c.requires.true_value _ _ in
-    let owed = sym c.if-not-owed_ok.true ∙ c.owed_ok.ensures
+    let owed = sym c.if-not-node_ok.true ∙ c.node_ok.ensures
     ∙ owed_tests _ c.requires.true_value _ (omega (arith, c.requires)) in
     every_skip _ _ _ phase (every_here _ _ owed)
 
@@ -29,7 +29,7 @@ unfolding record_ok record_of
 returns-then-not-last_ok c =
     let phase = sym c.if-not-phase_ok.false ∙ c.phase_ok.ensures
     ∙ phase_tests _ c.requires.true_value _ _ in
-    let owed = sym c.if-not-owed_ok.false ∙ c.owed_ok.ensures
+    let owed = sym c.if-not-node_ok.false ∙ c.node_ok.ensures
     ∙ owed_tests _ c.requires.true_value _ (omega (arith, c.requires)) in
     every_skip _ _ _ phase
     (every_skip _ _ _ owed
@@ -40,7 +40,7 @@ unfolding record_ok record_of
 returns-then-not-free_ok c =
     let phase = sym c.if-not-phase_ok.false ∙ c.phase_ok.ensures
     ∙ phase_tests _ c.requires.true_value _ _ in
-    let owed = sym c.if-not-owed_ok.false ∙ c.owed_ok.ensures
+    let owed = sym c.if-not-node_ok.false ∙ c.node_ok.ensures
     ∙ owed_tests _ c.requires.true_value _ (omega (arith, c.requires)) in
     every_skip _ _ _ phase
     (every_skip _ _ _ owed
@@ -52,7 +52,7 @@ unfolding record_ok record_of
 returns c =
     let phase = sym c.if-not-phase_ok.false ∙ c.phase_ok.ensures
     ∙ phase_tests _ c.requires.true_value _ _ in
-    let owed = sym c.if-not-owed_ok.false ∙ c.owed_ok.ensures
+    let owed = sym c.if-not-node_ok.false ∙ c.node_ok.ensures
     ∙ owed_tests _ c.requires.true_value _ (omega (arith, c.requires)) in
     rw (← c.bound.ensures)
     (every_skip _ _ _ phase

@@ -7,5 +7,5 @@ use Rattle.scanning.proofs.most_stops.Goals as goal
 pub returns-then-cap-colour : goal.returns-then-cap-colour
 returns-then-cap-colour c = (stops_most _ _ _, omega arith)
 
-pub returns : goal.returns
-returns c = let m = stops_most _ 0 _ in (omega arith, rw c.all_stops.ensures m)
+pub returns-else-cap-colour : goal.returns-else-cap-colour
+returns-else-cap-colour c = let m = stops_most _ 0 _ in (omega arith, rw c.all_stops.ensures m)

@@ -7,11 +7,9 @@ use Rattle.scanning.proofs.scans.Goals as goal
 
 pub marking-s-requires : goal.marking-s-requires
 marking-s-requires c =
-    record {
-      valid = begins _ _ _ _ c.requires.phase_value _ _ _ _ c.requires.passes
-          c.most_stops.ensures.0 c.most_stops.ensures.1;
-      room = c.requires.room;
-    }
+    rw (c.from.ensures, c.from-2.ensures, c.from-3.ensures)
+    (begins _ _ _ _ c.requires.phase_value _ _ _ _ c.requires.passes
+    c.most_stops.ensures.0 c.most_stops.ensures.1)
 
 pub standing-requires : goal.standing-requires
 standing-requires c = let g =
@@ -27,5 +25,5 @@ returns c = (
   c.marking-s.ensures.valid.within,
   rw c.standing.ensures
       (ends _ _ _ _ c.requires.phase_value _ _ _ _ _ _
-      c.marking-s.ensures.leads),
+      (rw (c.from.ensures, c.from-2.ensures, c.from-3.ensures) at c.marking-s.ensures.leads)),
 )

@@ -1,23 +1,16 @@
--- `shade_and_count` meets its contract: shading writes to a white node only, and that one then
--- counts among those that stop a look, so the count grows by what is answered at most.
+-- `shade_and_count` meets its contract: shading changes one colour at most, and the count of those
+-- that stop a look grows by as many at most.
+use mathlib.Core.Path.{◌∙◌}
 use native.Mathlib.Omega.{arith}
-use borrow.Author.Rules.{rules}
-use Rattle.base.proofs.Tests.{tests}
-use Rattle.rules.specs.Table.{shade_in}
-use Rattle.rules.proofs.Changes.{unchanged, one_grayed}
-use Rattle.scanning.proofs.Marks.{grayed_more}
+use Rattle.scanning.proofs.Marks.{few_shaded}
 use Rattle.scanning.proofs.shade_and_count.Goals as goal
 
-pub returns-then-colour-at-eq0 : goal.returns-then-colour-at-eq0
-unfolding shade_in
-returns-then-colour-at-eq0 c = record {
-  upper_bound = (omega arith, (search (tests, rules) depth 12, grayed_more _ _ (omega arith)));
-  value = search (one_grayed, rules);
-}
-
 pub returns : goal.returns
-unfolding shade_in
-returns c = record {
-  upper_bound = (omega arith, (search (tests, rules) depth 12, omega arith));
-  value = unchanged _;
-}
+returns c =
+    let shaded = c.shade_node.ensures in
+    let value = c.from.ensures ∙ shaded.value in
+    let few = few_shaded _ _ _ _ (omega (arith, c.requires)) shaded.colour_value value in
+    record {
+      upper_bound = (few.0, (shaded.colour_value, few.1));
+      value = value;
+    }

@@ -42,12 +42,12 @@ any_phase-requires c =
     ∙ ap (in_limits _) c.bound.ensures in
     record { goes = given; value = within _ _ given.code inside }
 
-pub returns-then-kind-eq3 : goal.returns-then-kind-eq3
-returns-then-kind-eq3 c =
+pub returns-then-a-eq-COLLECT : goal.returns-then-a-eq-COLLECT
+returns-then-a-eq-COLLECT c =
     let done = c.any_phase.ensures in
     let told =
     named _ _ collecting _ _ record { colour_value = done.1.0; changed_value = done.1.1.0 }
-    (kind_collect _ _ c.if-kind-eq3.true) in
+    (kind_collect _ _ c.if-a-eq-COLLECT.true) in
     (done.0, (told.colour_value, (told.changed_value, done.1.1.1)))
 
 pub step_passed-requires : goal.step_passed-requires
@@ -58,16 +58,7 @@ step_passed-requires c =
     ∙ ap (in_limits _) c.bound.ensures in
     within _ _ given.code inside
 
-pub after-requires-2 : goal.after-requires-2
-after-requires-2 c =
+pub after-requires-else-a-eq-COLLECT : goal.after-requires-else-a-eq-COLLECT
+after-requires-else-a-eq-COLLECT c =
     let few = at_most_two _ _ _ c.step_passed.ensures.changed_value in
     omega (arith, few, c.requires)
-
-pub returns : goal.returns
-returns c = (
-  c.step_passed.result,
-  (
-    c.step_passed.ensures.colour_value,
-    (c.step_passed.ensures.changed_value, c.after-2.ensures),
-  ),
-)

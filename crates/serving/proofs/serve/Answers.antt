@@ -8,6 +8,6 @@ use Rattle.serving.proofs.serve.Goals as goal
 pub returns : goal.returns
 returns c =
     served _ _ _ _ _ _ _ _ _ _ _ _ _ _ _ _ _
-    (lent _ _ _ _ c.least-a.ensures (omega arith))
-    (lent _ _ _ _ c.least-b.ensures (omega arith))
-    (lent _ _ _ _ c.least-c.ensures (omega arith)) c.feed-run.ensures
+    (lent _ _ _ _ c.min-a.ensures (omega arith))
+    (lent _ _ _ _ c.min-b.ensures (omega arith))
+    (lent _ _ _ _ c.min-c.ensures (omega arith)) c.feed-run.ensures

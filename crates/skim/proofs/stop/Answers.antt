@@ -1,18 +1,12 @@
--- `stop` meets its contract: its two tests are those of the definition, in the same order.
+-- `stop` meets its contract: white and black are the definition's two tests.
 use native.Mathlib.Omega.{arith}
 use borrow.Author.Rules.{rules}
 use Rattle.base.proofs.Tests.{tests}
-use Rattle.skim.specs.Stops.{stop}
+use Rattle.skim.proofs.Counts.{passed, stopped}
 use Rattle.skim.proofs.stop.Goals as goal
 
-pub returns-then-v-eq0 : goal.returns-then-v-eq0
-unfolding stop
-returns-then-v-eq0 c = (omega arith, search (tests, rules) depth 12)
+pub returns-in-0 : goal.returns-in-0
+returns-in-0 c = (omega arith, passed _ c.in-0.is)
 
-pub returns-then-v-eq2 : goal.returns-then-v-eq2
-unfolding stop
-returns-then-v-eq2 c = (omega arith, search (tests, rules) depth 12)
-
-pub returns : goal.returns
-unfolding stop
-returns c = (omega arith, search (tests, rules) depth 12)
+pub returns-in_default : goal.returns-in_default
+returns-in_default c = (omega arith, search (stopped, tests, rules))

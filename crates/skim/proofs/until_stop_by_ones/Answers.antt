@@ -1,20 +1,17 @@
--- `until_stop_by_ones` meets its contract: before each turn none of the first d colours stops a
--- look. The loop ends at the first that does, or at `most`.
-use mathlib.Core.Path.{sym}
-use native.Mathlib.Omega.{arith}
+-- `until_stop_by_ones` meets its contract: none of the colours before the first that stops a look
+-- does.
+use mathlib.Core.Path.{◌≡◌}
 use borrow.Author.Rules.{rules}
-use Rattle.base.proofs.Tests.{tests}
-use Rattle.skim.proofs.Counts.{stops_none, stops_more}
+use borrow.Author.Tests.{tests}
+use Rattle.std.specs.Bool.{⊤}
+use Rattle.std.proofs.lemmas.Iterator.{IsFirst-from_position, YieldsList-from_slice}
+use Rattle.skim.specs.Stops.{stop}
+use Rattle.skim.proofs.Counts.{first_stop}
 use Rattle.skim.proofs.until_stop_by_ones.Goals as goal
 
-pub loop-d-init : goal.loop-d-init
-loop-d-init c = (omega arith, sym (stops_none _ _))
-
-pub returns-then-stop-ne0 : goal.returns-then-stop-ne0
-returns-then-stop-ne0 c = search (tests, rules) depth 12
-
-pub loop-d-preserved : goal.loop-d-preserved
-loop-d-preserved c = (omega arith, rw stops_more (omega arith))
-
 pub returns : goal.returns
-returns c = search (tests, rules) depth 12
+returns c =
+    first_stop _ _ _
+    (IsFirst-from_position _ _ _ (λ v. ⊤) (λ v. 0 ≡ stop v) c.position.ensures.ran
+    (YieldsList-from_slice c.args.run.now cc) (λ x q k. search (rules, tests))
+    (λ x q k. search (rules, tests))) c.unwrap_or.ensures

@@ -8,6 +8,6 @@ pub returns-then-m-e : goal.returns-then-m-e
 unfolding bad_edge
 returns-then-m-e c = search (tests, rules) depth 12
 
-pub returns : goal.returns
+pub returns-else-m-e : goal.returns-else-m-e
 unfolding bad_edge
-returns c = search (tests, rules) depth 12
+returns-else-m-e c = search (tests, rules) depth 12

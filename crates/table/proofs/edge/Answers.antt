@@ -6,5 +6,5 @@ use Rattle.table.proofs.edge.Goals as goal
 pub returns-then-side-eq0 : goal.returns-then-side-eq0
 returns-then-side-eq0 c = search (on_left, rules)
 
-pub returns : goal.returns
-returns c = search (on_right, rules)
+pub returns-else-side-eq0 : goal.returns-else-side-eq0
+returns-else-side-eq0 c = search (on_right, rules)

@@ -6,5 +6,5 @@ use Rattle.table.proofs.set_edge.Goals as goal
 pub returns-then-side-eq0 : goal.returns-then-side-eq0
 returns-then-side-eq0 c = λ k y. search (set_left, rules)
 
-pub returns : goal.returns
-returns c = λ k y. search (set_right, rules)
+pub returns-else-side-eq0 : goal.returns-else-side-eq0
+returns-else-side-eq0 c = λ k y. search (set_right, rules)

@@ -1,15 +1,20 @@
--- Only a white colour is written, and then gray, as the definition has it; that is one colour
--- changed, and else none is.
+-- Only a white colour is written, and then gray, as the definition has it.
 use borrow.Author.Rules.{rules}
 use Rattle.base.proofs.Tests.{tests}
 use Rattle.rules.specs.Table.{shade_in}
-use Rattle.rules.proofs.Changes.{unchanged, one_grayed}
+use Rattle.rules.proofs.Changes.{unchanged}
 use Rattle.table.proofs.shade_node.Goals as goal
 
-pub returns-then-colour-at-eq0 : goal.returns-then-colour-at-eq0
+pub returns-then-colour-from-eq-WHITE-clause-colour_value :
+    goal.returns-then-colour-from-eq-WHITE-clause-colour_value
 unfolding shade_in
-returns-then-colour-at-eq0 c = record { colour_value = search (tests, rules) depth 12; value = search (one_grayed, rules) }
+returns-then-colour-from-eq-WHITE-clause-colour_value c = search (tests, rules) depth 12
 
-pub returns : goal.returns
+pub returns-else-colour-from-eq-WHITE-clause-colour_value :
+    goal.returns-else-colour-from-eq-WHITE-clause-colour_value
 unfolding shade_in
-returns c = record { colour_value = search (tests, rules) depth 12; value = unchanged _ }
+returns-else-colour-from-eq-WHITE-clause-colour_value c = search (tests, rules) depth 12
+
+pub returns-else-colour-from-eq-WHITE-clause-value :
+    goal.returns-else-colour-from-eq-WHITE-clause-value
+returns-else-colour-from-eq-WHITE-clause-value c = unchanged _

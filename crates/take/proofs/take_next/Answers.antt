@@ -1,6 +1,8 @@
 -- The tests stand in the definition's order. An edge of the free list that is not bad leads into
 -- the table, so both colours can be read and both nodes shaded.
+use Prim.Native.Nat.{ℕ}
 use mathlib.Core.Path.{refl, sym, ap, ◌∙◌}
+use lib.ListN.{get_or}
 use native.Mathlib.Omega.{arith}
 use borrow.Author.Rules.{rules}
 use Rattle.base.proofs.Tests.{tests, pick_yes, pick_no, eq_yes, lt_no, eq_no}
@@ -21,9 +23,9 @@ returns-then-bad_free c = record {
   changed_value = rw c.refusal_with.ensures (unchanged _);
 }
 
-pub returns-then-colour-first-gt2 : goal.returns-then-colour-first-gt2
+pub returns-then-colour-from-gt-BLACK : goal.returns-then-colour-from-gt-BLACK
 unfolding take_next
-returns-then-colour-first-gt2 c =
+returns-then-colour-from-gt-BLACK c =
     record {
       colour_value = rw c.refusal.ensures
           (pick_no _ _ _ _ (sym c.if-bad_free.false ∙ c.bad_free.ensures)
@@ -36,7 +38,7 @@ unfolding take_next
 returns-then-g-eq0 c =
     record {
       colour_value = pick_no _ _ _ _ (sym c.if-bad_free.false ∙ c.bad_free.ensures)
-          (pick_no _ _ _ _ (lt_no _ _ c.if-colour-first-gt2.false)
+          (pick_no _ _ _ _ (rw (← ap (λ (k : ℕ). get_or c.args.colour.now k 0) c.from.ensures) (lt_no _ _ c.if-colour-from-gt-BLACK.false))
           (pick_yes _ _ _ _ (eq_yes _ _ c.if-g-eq0.true)
           (leaves _ c.args.x _ _ _ _ _ _
           (c.relink-changed.ensures.x_value c.args.x)
@@ -45,19 +47,19 @@ returns-then-g-eq0 c =
       changed_value = c.relink-changed.ensures.value;
     }
 
-pub bounds-colour-next : goal.bounds-colour-next
-bounds-colour-next c = let h =
+pub bounds-colour-from-2 : goal.bounds-colour-from-2
+bounds-colour-from-2 c = let h =
     fine_free _ _ _ (sym c.if-bad_free.false
     ∙ c.bad_free.ensures) in omega arith
 
-pub returns-then-colour-next-gt2 : goal.returns-then-colour-next-gt2
+pub returns-then-colour-from-gt-BLACK-2 : goal.returns-then-colour-from-gt-BLACK-2
 unfolding take_next
-returns-then-colour-next-gt2 c =
+returns-then-colour-from-gt-BLACK-2 c =
     record {
-      colour_value = rw c.refusal-then-colour-next-gt2.ensures
+      colour_value = rw c.refusal-then-colour-from-gt-BLACK-2.ensures
           (pick_no _ _ _ _ (sym c.if-bad_free.false ∙ c.bad_free.ensures)
           (search (tests, rules) depth 12));
-      changed_value = rw c.refusal-then-colour-next-gt2.ensures (unchanged _);
+      changed_value = rw c.refusal-then-colour-from-gt-BLACK-2.ensures (unchanged _);
     }
 
 pub shade_node-after-requires : goal.shade_node-after-requires
@@ -79,9 +81,9 @@ returns c =
     let taken = c.relink-taken.ensures in
     let after = c.shade_node-after.ensures in record {
       colour_value = pick_no _ _ _ _ (sym c.if-bad_free.false ∙ c.bad_free.ensures)
-          (pick_no _ _ _ _ (lt_no _ _ c.if-colour-first-gt2.false)
+          (pick_no _ _ _ _ (rw (← ap (λ (k : ℕ). get_or c.args.colour.now k 0) c.from.ensures) (lt_no _ _ c.if-colour-from-gt-BLACK.false))
           (pick_no _ _ _ _ (eq_no _ _ c.if-g-eq0.false)
-          (pick_no _ _ _ _ (lt_no _ _ c.if-colour-next-gt2.false)
+          (pick_no _ _ _ _ (rw (← ap (λ (k : ℕ). get_or c.args.colour.now k 0) c.from-2.ensures) (lt_no _ _ c.if-colour-from-gt-BLACK-2.false))
           (rw c.less_free-2.ensures (leaves_shaded _ c.args.x _ _ _ _ _ _ _
           (taken.x_value c.args.x) after.colour_value)))));
       changed_value = summed _ _ _ _ _ _ _ (omega (arith, c.requires)) (omega (arith, c.requires))

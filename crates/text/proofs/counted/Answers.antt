@@ -8,6 +8,6 @@ pub returns-then-n-le-COUNT : goal.returns-then-n-le-COUNT
 unfolding counted
 returns-then-n-le-COUNT c = search (tests, rules) depth 12
 
-pub returns : goal.returns
+pub returns-else-n-le-COUNT : goal.returns-else-n-le-COUNT
 unfolding counted
-returns c = search (tests, rules) depth 12
+returns-else-n-le-COUNT c = search (tests, rules) depth 12

@@ -1,33 +1,30 @@
--- `entry` meets its contract: its three tests are those of the definition, in the same order.
+-- The line is short enough, of the form, and of the node: the definition's tests, in its order.
 use mathlib.Core.Path.{refl}
-use Rattle.base.proofs.Tests.{pick_yes, pick_no, every_here, every_skip, every_last}
-use Rattle.base.proofs.Tests.{le_yes, le_no, eq_yes, eq_no}
+use Rattle.base.proofs.Tests.{pick_yes, pick_no, lt_yes, lt_no, eq_yes, eq_no}
 use Rattle.text.specs.Grammar.{entry}
 use Rattle.text.proofs.entry.Goals as goal
 
-pub returns-then-end-gt-LONGEST : goal.returns-then-end-gt-LONGEST
+pub returns-then-line-gt-LONGEST : goal.returns-then-line-gt-LONGEST
 unfolding entry
-returns-then-end-gt-LONGEST c = pick_no _ _ _ _ (every_here _ _ (le_no _ _ c.if-end-gt-LONGEST.true)) refl
+returns-then-line-gt-LONGEST c =
+    pick_yes _ _ _ _ (lt_yes _ _ c.if-line-gt-LONGEST.true) refl
 
-pub returns-then-e-end : goal.returns-then-e-end
+pub returns-in_err-row : goal.returns-in_err-row
 unfolding entry
-returns-then-e-end c =
-    rw (← c.entry_line-e.ensures)
-    (pick_no _ _ _ _ (every_skip _ _ _ (le_yes _ _ c.if-end-gt-LONGEST.false)
-    (every_here _ _ (eq_no _ _ c.if-e-end.true))) refl)
+returns-in_err-row c =
+    rw (c.from_residual.ensures, ← c.entry_line.ensures, ← c.whole.ensures, c.in_err-row.was)
+    (pick_no _ _ _ _ (lt_no _ _ c.if-line-gt-LONGEST.false) refl)
 
-pub returns-then-node-n : goal.returns-then-node-n
+pub returns-then-row-n : goal.returns-then-row-n
 unfolding entry
-returns-then-node-n c =
-    rw (← c.entry_line-e.ensures)
-    (pick_no _ _ _ _ (every_skip _ _ _ (le_yes _ _ c.if-end-gt-LONGEST.false)
-    (every_skip _ _ _ (eq_yes _ _ c.if-e-end.false)
-    (every_last _ _ (eq_no _ _ c.if-node-n.true)))) refl)
+returns-then-row-n c =
+    rw (← c.entry_line.ensures, ← c.whole.ensures, c.in_ok-row.was)
+    (pick_no _ _ _ _ (lt_no _ _ c.if-line-gt-LONGEST.false)
+    (pick_yes _ _ _ _ (eq_yes _ _ c.if-row-n.true) refl))
 
-pub returns : goal.returns
+pub returns-else-row-n : goal.returns-else-row-n
 unfolding entry
-returns c =
-    rw (← c.entry_line-e.ensures)
-    (pick_yes _ _ _ _ (every_skip _ _ _ (le_yes _ _ c.if-end-gt-LONGEST.false)
-    (every_skip _ _ _ (eq_yes _ _ c.if-e-end.false)
-    (every_last _ _ (eq_yes _ _ c.if-node-n.false)))) refl)
+returns-else-row-n c =
+    rw (← c.entry_line.ensures, ← c.whole.ensures, c.in_ok-row.was)
+    (pick_no _ _ _ _ (lt_no _ _ c.if-line-gt-LONGEST.false)
+    (pick_no _ _ _ _ (eq_no _ _ c.if-row-n.false) refl))

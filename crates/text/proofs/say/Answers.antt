@@ -6,15 +6,14 @@ use Rattle.text.proofs.say.Goals as goal
 pub returns : goal.returns
 unfolding said put_all
 returns c =
+    let b = rw c.from.ensures at c.decimal-b.ensures in
     rw (
       put_append,
       put_append,
       put_append,
       put_append,
       ← c.put_all-a.ensures,
-      ←
-          c.decimal-b.ensures,
+      ← b,
       ← c.put_all-c.ensures,
-      ←
-          c.decimal-d.ensures,
+      ← c.decimal-d.ensures,
     ) c.put.ensures

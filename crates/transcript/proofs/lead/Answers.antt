@@ -6,22 +6,22 @@ use Rattle.session.proofs.Feeds.{found, newline_at}
 use Rattle.transcript.proofs.Stands.{leads_over, leads_on, leads_rest}
 use Rattle.transcript.proofs.lead.Goals as goal
 
-pub returns-then-is_over : goal.returns-then-is_over
-returns-then-is_over c =
+pub returns-then-is_over-clause-leads : goal.returns-then-is_over-clause-leads
+returns-then-is_over-clause-leads c =
     leads_over _ _ _ _ _ _ _ _ _ _ _ c.requires (sym c.if-is_over.true ∙ c.is_over.ensures)
 
-pub slice_bounds-put_all-count : goal.slice_bounds-put_all-count
-slice_bounds-put_all-count c =
+pub slice_bounds-bytes-count : goal.slice_bounds-bytes-count
+slice_bounds-bytes-count c =
     let h = found _ _ _ c.newline_from-end.ensures c.requires in
     omega arith
 
-pub slice_bounds-put_all-start : goal.slice_bounds-put_all-start
-slice_bounds-put_all-start c =
+pub slice_bounds-bytes-start : goal.slice_bounds-bytes-start
+slice_bounds-bytes-start c =
     let h = found _ _ _ c.newline_from-end.ensures c.requires in
     omega arith
 
-pub slice_bounds-put_all-end : goal.slice_bounds-put_all-end
-slice_bounds-put_all-end c =
+pub slice_bounds-bytes-end : goal.slice_bounds-bytes-end
+slice_bounds-bytes-end c =
     let h = found _ _ _ c.newline_from-end.ensures c.requires in
     omega arith
 
@@ -30,14 +30,12 @@ end_line-requires c =
     let h = newline_at _ _ _ c.newline_from-end.ensures c.requires in
     record { i_in_bounds = c.if-end-input.true; i_value = h c.if-end-input.true }
 
-pub returns-then-end-input : goal.returns-then-end-input
-returns-then-end-input c =
+pub returns-then-end-input-clause-leads : goal.returns-then-end-input-clause-leads
+returns-then-end-input-clause-leads c =
     leads_on _ _ _ _ _ _ _ _ _ _ _ _ _ _ c.newline_from-end.ensures c.requires
-    (sym c.if-is_over.false ∙ c.is_over.ensures) c.put_all-at.ensures _ _
-    c.end_line.ensures
+    (sym c.if-is_over.false ∙ c.is_over.ensures) c.put_all-s.ensures _ _ c.end_line.ensures.leads
 
-pub returns : goal.returns
-returns c =
+pub returns-clause-leads : goal.returns-clause-leads
+returns-clause-leads c =
     leads_rest _ _ _ _ _ _ _ _ _ _ _ _ _ _ c.newline_from-end.ensures c.requires
-    (sym c.if-is_over.false ∙ c.is_over.ensures) c.put_all-at.ensures
-    c.if-end-input.false
+    (sym c.if-is_over.false ∙ c.is_over.ensures) c.put_all-s.ensures c.if-end-input.false

@@ -3,4 +3,4 @@ use mathlib.Core.Path.{refl}
 use Rattle.transcript.proofs.start.Goals as goal
 
 pub returns : goal.returns
-returns c = rw c.fresh-rec.ensures refl
+returns c = rw c.fresh.ensures refl
