@@ -1,5 +1,5 @@
-/* What a back end asks of C: to fill bytes, to copy them and to move them. Each object that
- * tools/targets.sh compiles has these for itself (static), so that the library needs no C library. */
+/* What a back end asks of C: to fill bytes and to copy them. Each object that tools/targets.sh
+ * compiles has these two for itself (static), so that the library needs no C library. */
 typedef __SIZE_TYPE__ size;
 
 __attribute__((used)) static void *memset(void *to, int byte, size n) {
@@ -19,11 +19,5 @@ __attribute__((used)) static void *memcpy(void *restrict to, const void *restric
 #else
     for (size i = 0; i < n; i++) ((unsigned char *)to)[i] = ((const unsigned char *)from)[i];
 #endif
-    return to;
-}
-
-__attribute__((used)) static void *memmove(void *to, const void *from, size n) {
-    if ((size)to - (size)from >= n) return memcpy(to, from, n);
-    while (n-- > 0) ((unsigned char *)to)[n] = ((const unsigned char *)from)[n];
     return to;
 }

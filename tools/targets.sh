@@ -34,39 +34,17 @@ own_target() {
 # with so high a threshold a call becomes one function, and takes about half the time.
 optimised=(-O3 -mllvm -inline-threshold=3000 -fPIC -ffunction-sections)
 
-# narrow MODULE NAME: the module for a machine with 32-bit addresses, on standard output. An address
-# as a number is zero-extended. A pointer behind a tag keeps the place, 8 bytes from the start, that
-# the rest of the module has it at. Any other type in which the place of a pointer would move is
-# refused.
-narrow() {
-    if sed -E 's/\{ (ptr, i64|i8, ptr) \}//g' "$1" |
-        grep -nE '\{ [^{}]*\bptr\b[^{}]*\}|x ptr\]' >&2; then
-        echo 'narrow: a type that has no place for its pointer' >&2
-        return 1
-    fi
-    "$tools/bin/clang" --target="$(triple "$2")" -x c /dev/null -S -emit-llvm -o - |
-        grep '^target datalayout'
-    sed -E 's/^( *)(%[^ ]+) = ptrtoaddr (.*) to i64$/\1\2.narrow = ptrtoaddr \3 to i32\
-\1\2 = zext i32 \2.narrow to i64/
-        s/(extractvalue|insertvalue) \{ i8, ptr \} (.*), 1$/\1 { i8, ptr } \2, 2/
-        s/\{ i8, ptr \}/{ i8, [7 x i8], ptr }/g' "$1"
-}
-
 # compile MODULE NAME OBJECT: the module compiled for the machine NAME. What fills and copies bytes
-# is in the object (tools/memory.c): a back end asks for memset, memcpy and memmove, and the object
-# asks for nothing, so that it needs no C library. WebAssembly has instructions for these, and
-# addresses of 32 bits.
+# is in the object (tools/memory.c): a back end asks for memset and memcpy, and the object asks for
+# nothing, so that it needs no C library. WebAssembly has instructions for both.
 compile() {
-    local flags memory=() here module=$1
+    local flags memory=() here
     here=$(dirname "${BASH_SOURCE[0]}")
     flags=(--target="$(triple "$2")" "${optimised[@]}")
     if [ "$2" != wasm32 ]; then
         "$tools/bin/clang" "${flags[@]}" -ffreestanding -Wall -Wextra -Werror -Xclang \
             -disable-llvm-passes -c -emit-llvm "$here/memory.c" -o "$3.memory" || return
         memory=(-Xclang -mlink-bitcode-file -Xclang "$3.memory")
-    else
-        narrow "$1" "$2" >"$3.ll" || return
-        module=$3.ll
     fi
-    "$tools/bin/clang" "${flags[@]}" "${memory[@]}" -Wno-override-module -x ir "$module" -c -o "$3"
+    "$tools/bin/clang" "${flags[@]}" "${memory[@]}" -Wno-override-module -x ir "$1" -c -o "$3"
 }
