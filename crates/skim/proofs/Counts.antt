@@ -1,16 +1,13 @@
 -- Counts of colours put together, and what they tell of each colour.
 use Prim.Native.Nat.{ℕ, zero, suc, ◌+◌, ◌-◌, ◌*◌, ◌/◌, ◌%◌, ◌≤◌, ◌<◌}
-use mathlib.Core.Path.{◌≡◌, refl, sym, ap, ◌∙◌}
+use mathlib.Core.Path.{◌≡◌, refl, ap, ◌∙◌}
 use mathlib.Core.Bool.{Bool, true, false}
 use mathlib.Core.List.{List}
 use mathlib.Core.Logic.{◌⊎◌}
 use lib.ListN.{length, get_or, set, take, drop}
 use Rattle.std.proofs.lemmas.List.{get_or-take, get_or-drop}
-use Rattle.std.specs.List.{AllWithin, HoldsAt}
-use Rattle.std.proofs.Common.{Option, None, Some, length-take, drop-drop, length-drop, []}
+use Rattle.std.proofs.Common.{length-take, drop-drop, length-drop, []}
 use Rattle.std.specs.Simd.{first_chunks}
-use Rattle.std.specs.Option.{MatchOption, unwrap_or}
-use Rattle.std.specs.Bool.{⊤}
 use lib.Seq.{get_or-set_same, get_or-set_other}
 use lib.Dec.{ltb}
 use borrow.Author.Tests.{ltb-true, ltb-false}
@@ -158,22 +155,6 @@ stops_rest c i (suc d) =
     let z : 0 + d ≡ d = omega arith in
     rw (z, get_or-drop i c d 0) (ap (λ (k : ℕ). k + stop (get_or c (i + d) 0)) (stops_rest c i d))
 
--- where none of the first d colours stops a look
-pub stops_zero : (c : List ℕ) (d : ℕ) → AllWithin (λ v. 0 ≡ stop v) c 0 d → 0 ≡ stops c 0 d
-stops_zero c zero h = sym (stops_none c 0)
-stops_zero c (suc d) h =
-    let i = stops_zero c d (λ k e a b. h k e a (omega arith)) in
-    let s = h d 0 (omega arith) (omega arith) in
-    let n = stops_next c d in rw (← add-one) (omega arith)
-
--- before the first colour that stops a look, or at the end
-pub first_stop : (c : List ℕ) (r : Option ℕ) (n : ℕ)
-    → MatchOption r (AllWithin (λ v. 0 ≡ stop v) c 0 (length c))
-    (λ i. (i < length c) × HoldsAt (λ v. ⊤) c i × AllWithin (λ v. 0 ≡ stop v) c 0 i)
-    → n ≡ unwrap_or r (length c) → (n ≤ length c) × (0 ≡ stops c 0 n)
-first_stop c None n h e = rw e (omega arith, stops_zero c (length c) h)
-first_stop c (Some i) n h e = let a = h.0 in rw e (omega arith, stops_zero c i h.2)
-
 -- what is told of a part is told of the colours from its first on
 pub part_passed : (c : List ℕ) (i n d : ℕ)
     → (d ≤ length (take (i + n - i) (drop i c))) × (0 ≡ stops (take (i + n - i) (drop i c)) 0 d)
@@ -221,19 +202,6 @@ counted_all c r j k n s e f g h i a b =
     (b ∙ rw (e, z) (stops_rest c (k * block) (length (drop (k * block) c))))
     (omega arith)
 
--- where none of the first j blocks has a stop
-blocks_zero : (c : List ℕ) (bs : List (List ℕ)) (k j : ℕ) → bs ≡ first_chunks block k c → j ≤ k
-    → AllWithin (λ b. 0 ≡ stops b 0 block) bs 0 j → 0 ≡ stops c 0 (j * block)
-blocks_zero c bs k zero e h a = let z : 0 * block ≡ 0 = omega arith in rw z (sym (stops_none c 0))
-blocks_zero c bs k (suc j) e h a =
-    let i = blocks_zero c bs k j e (omega arith) (λ n d p q. a n d p (omega arith)) in
-    let s = a j [] (omega arith) (omega arith) in
-    let p = stops_part c (j * block) block block (omega arith) in
-    let t = rw (e, block_at block k j c [] h, p) at s in
-    let z : suc j * block ≡ j * block + block = omega arith in
-    let o : 0 + j * block ≡ j * block = omega arith in
-    rw (z, stops_joined, o) (omega arith)
-
 -- a shorter run
 pub stops_less : (c : List ℕ) (i d e : ℕ) → e ≤ d → 0 ≡ stops c i d → 0 ≡ stops c i e
 stops_less c i d e h z =
@@ -247,17 +215,20 @@ stops_then c d n e z h k =
     let a = rw (stops_part c d n e h) at k in
     let o : 0 + d ≡ d = omega arith in rw (stops_joined, o) (omega arith)
 
--- the blocks before the first that has a stop, or all but the last colours, of which there is a
--- block
-pub blocks_before : (c : List ℕ) (bs : List (List ℕ)) (k d : ℕ) (r : Option ℕ)
-    → bs ≡ first_chunks block k c → length bs ≡ k → k ≡ length c / block → block ≤ length c
-    → MatchOption r (AllWithin (λ b. 0 ≡ stops b 0 block) bs 0 (length bs))
-    (λ j. (j < length bs) × HoldsAt (λ b. ⊤) bs j × AllWithin (λ b. 0 ≡ stops b 0 block) bs 0 j)
-    → MatchOption r (d ≡ length c - block) (λ j. d ≡ j * block)
-    → (d + block ≤ length c) × (0 ≡ stops c 0 d)
-blocks_before c bs k d None e f g m h i =
-    let z = blocks_zero c bs k (length bs) e (omega arith) h in
-    (omega arith, stops_less c 0 (length bs * block) d (omega arith) z)
-blocks_before c bs k d (Some j) e f g m h i =
-    let a = h.0 in
-    (omega arith, rw i (blocks_zero c bs k j e (omega arith) h.2))
+-- blocks of which none has a stop: one more
+pub block_passed : (c : List ℕ) (bs : List (List ℕ)) (k j s : ℕ) → bs ≡ first_chunks block k c
+    → length bs ≡ k → k ≡ length c / block → j < length bs → 0 ≡ stops c 0 (j * block)
+    → s ≡ stops (get_or bs j []) 0 (length (get_or bs j [])) → s ≡ 0
+    → 0 ≡ stops c 0 ((j + 1) * block)
+block_passed c bs k j s e f g h z d n =
+    let a = counted_more c bs k j 0 s e f g h (omega arith) z d in omega (arith, a.1)
+
+-- and a part of the next
+pub block_then : (c : List ℕ) (bs : List (List ℕ)) (k j d : ℕ) → bs ≡ first_chunks block k c
+    → length bs ≡ k → k ≡ length c / block → j < length bs → 0 ≡ stops c 0 (j * block)
+    → d ≤ block → 0 ≡ stops (get_or bs j []) 0 d
+    → (j * block + d ≤ length c) × (0 ≡ stops c 0 (j * block + d))
+block_then c bs k j d e f g h z l n =
+    let at_j : get_or bs j [] ≡ take block (drop (j * block) c) =
+    rw e (block_at block k j c [] (omega arith)) in
+    (omega arith, stops_then c (j * block) block d z l (rw at_j at n))

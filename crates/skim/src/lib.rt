@@ -28,8 +28,8 @@ fn stops_among(colours: &[u8]) -> u8
     ensures { (result ≤ length colours.now) × (result ≡ stops colours.now 0 (length colours.now)) }
 {
     let mut found = 0;
-    for v in colours {
-        found += stop(*v);
+    for j in 0..colours.len() {
+        found += stop(colours[j]);
     }
     found
 }
@@ -40,8 +40,8 @@ pub fn all_stops(colour: &[u8]) -> usize
 {
     let (blocks, rest) = colour.as_chunks::<BLOCK>();
     let mut found = 0;
-    for colours in blocks {
-        found += usize::from(stops_among(colours));
+    for n in 0..blocks.len() {
+        found += usize::from(stops_among(&blocks[n]));
     }
     found + usize::from(stops_among(rest))
 }
@@ -61,8 +61,8 @@ fn first_in_block(colours: &[u8]) -> usize
     ensures { (result ≤ block) × (0 ≡ stops colours.now 0 result) }
 {
     let mut first = BEHIND;
-    for (j, v) in colours.iter().enumerate() {
-        first = first.min(stop_at(*v, j as u8));
+    for j in 0..BLOCK {
+        first = first.min(stop_at(colours[j], j as u8));
     }
     usize::from(first)
 }
@@ -74,11 +74,12 @@ fn until_stop_by_blocks(run: &[u8]) -> usize
     ensures { (result ≤ length run.now) × (0 ≡ stops run.now 0 result) }
 {
     let (blocks, _) = run.as_chunks::<BLOCK>();
-    let stopping = blocks.iter().position(|colours| stops_among(colours) != 0);
-    let d = match stopping {
-        Some(n) => n * BLOCK,
-        None => run.len() - BLOCK,
-    };
+    for n in 0..blocks.len() {
+        if stops_among(&blocks[n]) != 0 {
+            return n * BLOCK + first_in_block(&blocks[n]);
+        }
+    }
+    let d = run.len() - BLOCK;
     d + first_in_block(&run[d..d + BLOCK])
 }
 
@@ -86,7 +87,12 @@ fn until_stop_by_blocks(run: &[u8]) -> usize
 fn until_stop_by_ones(run: &[u8]) -> usize
     ensures { (result ≤ length run.now) × (0 ≡ stops run.now 0 result) }
 {
-    run.iter().position(|v| stop(*v) != 0).unwrap_or(run.len())
+    for d in 0..run.len() {
+        if stop(run[d]) != 0 {
+            return d;
+        }
+    }
+    run.len()
 }
 
 // How many colours from i on, at most most, a look passes over.

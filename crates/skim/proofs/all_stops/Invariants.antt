@@ -5,6 +5,6 @@ use mathlib.Core.Path.{◌≡◌}
 use Rattle.skim.specs.Stops.{stops, block}
 use Rattle.skim.proofs.all_stops.Given as goal
 
-abbrev pub invariant-loop-colours : goal.invariant-loop-colours
-invariant-loop-colours l =
-    (l.found ≤ l.colours-index * block) × (l.found ≡ stops l.colour 0 (l.colours-index * block))
+abbrev pub invariant-loop-n : goal.invariant-loop-n
+invariant-loop-n l =
+    (l.found ≤ l.n * block) × (l.found ≡ stops l.colour 0 (l.n * block))

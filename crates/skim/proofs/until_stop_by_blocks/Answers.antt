@@ -1,32 +1,35 @@
--- `until_stop_by_blocks` meets its contract: no block before the first that has a stop has one, and
--- no colour before the first of that block that stops a look does. Where no block has one, the last
+-- `until_stop_by_blocks` meets its contract: a block without a stop leaves the count over the
+-- blocks at 0, and a block with one is read again up to its first. Where no block has one, the last
 -- colours are read with some of those that are known: two runs that overlap, each without a stop,
 -- are one.
-use mathlib.Core.Path.{◌≡◌, refl}
+use Prim.Native.Nat.{◌-◌}
+use mathlib.Core.Path.{refl, sym}
 use native.Mathlib.Omega.{arith}
-use borrow.Author.Rules.{rules}
-use borrow.Author.Tests.{tests}
-use Rattle.std.specs.Bool.{⊤}
-use Rattle.std.proofs.lemmas.Iterator.{IsFirst-from_position, YieldsList-from_slice}
-use Rattle.skim.specs.Stops.{stops, block}
-use Rattle.skim.proofs.Counts.{stops_then, blocks_before}
+use lib.ListN.{length}
+use Rattle.skim.specs.Stops.{block}
+use Rattle.skim.proofs.Counts.{stops_none, stops_less, stops_then, block_passed, block_then}
 use Rattle.skim.proofs.until_stop_by_blocks.Goals as goal
-use Rattle.skim.proofs.until_stop_by_blocks.Goals.{in-Some, in-None}
+
+pub loop-n-init : goal.loop-n-init
+loop-n-init c = sym (stops_none _ _)
+
+pub returns-then-stops_among-ne0 : goal.returns-then-stops_among-ne0
+returns-then-stops_among-ne0 c =
+    let made = c.as_chunks.ensures in
+    block_then c.args.run.now c.as_chunks.result.0.now _ c.loop-n.n _ made.front made.front_len refl
+    c.loop-n-test.true c.loop-n.invariant c.first_in_block.ensures.0 c.first_in_block.ensures.1
+
+pub loop-n-preserved : goal.loop-n-preserved
+loop-n-preserved c =
+    let made = c.as_chunks.ensures in
+    block_passed c.args.run.now c.as_chunks.result.0.now _ c.loop-n.n _ made.front made.front_len refl
+    c.loop-n-test.true c.loop-n.invariant c.stops_among.ensures.1 c.if-stops_among-ne0.false
 
 pub returns : goal.returns
 returns c =
-    let made = c.as_chunks.ensures in
-    let before =
-    blocks_before c.args.run.now c.as_chunks.result.0.now _ c.match-stopping.d
-    c.position-stopping.result made.front made.front_len refl c.requires
-    (IsFirst-from_position _ _ _ (λ b. ⊤) (λ b. 0 ≡ stops b 0 block)
-    c.position-stopping.ensures.ran
-    (YieldsList-from_slice c.as_chunks.result.0.now cc) (λ x q k. search (rules, tests))
-    (λ x q k. search (rules, tests)))
-    (elim c.match-stopping.branch [
-      | in-Some w ↦ rw w.in-Some.is w.d-is
-      | in-None w ↦ rw w.in-None.is w.d-is
-    ]) in (
-      omega (arith, before.0, c.first_in_block.ensures.0),
-      stops_then c.args.run.now _ _ _ before.1 (omega arith) c.first_in_block.ensures.1,
+    let run = c.args.run.now in
+    let known =
+    stops_less run 0 _ (length run - block) (omega arith) c.loop-n.invariant in (
+      omega (arith, c.first_in_block-2.ensures.0),
+      stops_then run _ _ _ known (omega arith) c.first_in_block-2.ensures.1,
     )
