@@ -4,12 +4,7 @@ use mathlib.Core.Path.{◌≡◌, refl, sym}
 use mathlib.Core.Bool.{Bool, true, false}
 use mathlib.Core.List.{List}
 use native.Mathlib.Omega.{arith}
-use lib.ListN.{length, get_or, set, take, drop}
-use Rattle.std.proofs.Common.{Option, None, Some, length-take, length-drop}
-use Rattle.std.proofs.lemmas.List.{get_or-take, get_or-drop}
-use Rattle.std.specs.List.{AllWithin, HoldsAt}
-use Rattle.std.specs.Option.{MatchOption, unwrap_or}
-use Rattle.std.specs.Bool.{⊤}
+use lib.ListN.{get_or, set}
 use lib.Seq.{get_or-set_other}
 use lib.Dec.{eqb}
 use Rattle.base.specs.Choice.{pick}
@@ -63,44 +58,21 @@ dark_set zero i j v c h = refl
 dark_set (suc n) i j v c h =
     rw (get_or-set_other c j i v 0 (λ e. omega arith), dark_set n (i + 1) j v c (omega arith))
 
--- n colours that are not white
-pub dark_reached : (m n i : ℕ) (c : List ℕ) → n ≤ m
-    → ((j : ℕ) → j < n → get_or c (i + j) 0 ≡ 0 → ⊥) → n ≤ dark m i c
+-- the loop: n colours are not white, and k is all
+pub dark_start : (m i : ℕ) (c : List ℕ) → dark m i c ≡ 0 + dark (m - 0) (i + 0) c
+dark_start m i c =
+    let z : m - 0 ≡ m = omega arith in let y : i + 0 ≡ i = omega arith in rw (z, y) (omega arith)
+
+pub dark_on : (m n i k : ℕ) (c : List ℕ) → n < m → (get_or c (i + n) 0 ≡ 0 → ⊥)
+    → k ≡ n + dark (m - n) (i + n) c → k ≡ n + 1 + dark (m - (n + 1)) (i + (n + 1)) c
 unfolding dark
-dark_reached m zero i c h f = omega arith
-dark_reached zero (suc n) i c h f = absurd (omega arith)
-dark_reached (suc m) (suc n) i c h f =
-    let z : i + 0 ≡ i = omega arith in
-    let w = pick_no (suc (dark m (i + 1) c)) 0 _ _
-    (eq_no (get_or c i 0) white (rw z at (f 0 (omega arith)))) refl in
-    let y = dark_reached m n (i + 1) c (omega arith)
-    (λ j k. let x : i + 1 + j ≡ i + suc j = omega arith in rw x (f (suc j) (omega arith))) in
-    omega (arith, w, y)
-
-passed : (c : List ℕ) (i k n : ℕ) → n ≤ k
-    → AllWithin (λ v. v ≡ 0 → ⊥) (take k (drop i c)) 0 n
-    → (j : ℕ) → j < n → get_or c (i + j) 0 ≡ 0 → ⊥
-passed c i k n h a j p =
-    rw (get_or-take k (drop i c) j 0 (omega arith), get_or-drop i c j 0)
-    at (a j 0 (omega arith) p)
-
--- up to the first that is white, or all; w is how many are looked at
-pub first_white : (c : List ℕ) (i w k n : ℕ) (r : Option ℕ)
-    → MatchOption r (AllWithin (λ v. v ≡ 0 → ⊥) (take w (drop i c)) 0 (length (take w (drop i c))))
-    (λ j. (j < length (take w (drop i c))) × HoldsAt (λ v. ⊤) (take w (drop i c)) j
-    × AllWithin (λ v. v ≡ 0 → ⊥) (take w (drop i c)) 0 j)
-    → n ≡ unwrap_or r k → w ≡ k → i + k ≤ length c → (n ≤ k) × (n ≤ dark k i c)
-first_white c i w k n None h e z g =
-    let l = length-take w (drop i c) in
-    let m = length-drop i c in (
-      omega (arith, e),
-      rw e (dark_reached k k i c (omega arith) (passed c i w k (omega arith)
-          (λ j d a b. h j d a (omega arith)))),
-    )
-first_white c i w k n (Some j) h e z g =
-    let l = length-take w (drop i c) in
-    let a = h.0 in
-    (omega (arith, e), rw e (dark_reached k j i c (omega arith) (passed c i w j (omega arith) h.2)))
+dark_on m n i k c h f e =
+    let z : m - n ≡ suc (m - (n + 1)) = omega arith in
+    let y : i + (n + 1) ≡ i + n + 1 = omega arith in
+    let x = rw z at e in
+    let w = pick_no (suc (dark (m - (n + 1)) (i + n + 1) c)) 0 _ _
+    (eq_no (get_or c (i + n) 0) white f) refl in
+    rw y (omega (arith, x, w))
 
 -- a number that is at most that of fewer colours
 pub dark_within : (n k e i : ℕ) (c : List ℕ) → n ≤ dark k i c → k ≤ e → n ≤ dark e i c

@@ -44,10 +44,12 @@ fn until_white(colour: &[u8], i: usize, most: usize) -> usize
     requires { i + most ≤ length colour.now }
     ensures { (result ≤ most) × (result ≤ dark most i colour.now) }
 {
-    colour[i..i + most]
-        .iter()
-        .position(|v| *v == 0)
-        .unwrap_or(most)
+    for n in 0..most {
+        if colour[i + n] == 0 {
+            return n;
+        }
+    }
+    most
 }
 
 // The same of the colours before end.

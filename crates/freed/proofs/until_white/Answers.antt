@@ -1,16 +1,18 @@
--- `until_white` meets its contract: no colour before the first that is white is.
-use mathlib.Core.Path.{◌≡◌}
+-- `until_white` meets its contract: before each turn all colours are the first n, which are not
+-- white, and those behind them.
 use native.Mathlib.Omega.{arith}
-use borrow.Author.Rules.{rules}
-use borrow.Author.Tests.{tests}
-use Rattle.std.specs.Bool.{⊤}
-use Rattle.std.proofs.lemmas.Iterator.{IsFirst-from_position, YieldsList-from_slice}
-use Rattle.freed.proofs.Colours.{first_white}
+use Rattle.freed.proofs.Colours.{dark_start, dark_on}
 use Rattle.freed.proofs.until_white.Goals as goal
 
+pub loop-n-init : goal.loop-n-init
+loop-n-init c = dark_start _ _ _
+
+pub returns-then-colour-i-eq0 : goal.returns-then-colour-i-eq0
+returns-then-colour-i-eq0 c = (omega arith, omega arith)
+
+pub loop-n-preserved : goal.loop-n-preserved
+loop-n-preserved c =
+    dark_on _ _ _ _ _ (omega arith) c.if-colour-i-eq0.false c.loop-n.invariant
+
 pub returns : goal.returns
-returns c =
-    first_white c.args.colour.now c.args.i _ c.args.most _ _
-    (IsFirst-from_position _ _ _ (λ v. ⊤) (λ v. v ≡ 0 → ⊥) c.position.ensures.ran
-    (YieldsList-from_slice _ c.iter.ensures.rest) (λ x q k. search (rules, tests))
-    (λ x q k. search (rules, tests))) c.unwrap_or.ensures (omega arith) c.requires
+returns c = (omega arith, omega arith)
