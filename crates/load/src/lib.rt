@@ -111,10 +111,10 @@ fn narrow(given: &[u32], edges: &mut [u16])
     requires below { Below most_nodes given.now }
     ensures { take (length given.now) edges.new ≡ given.now }
 {
-    // Kept: by `enumerate`: in a loop over `edges.iter_mut().zip(given)` the invariant, which is of
-    // the first n of `edges`, could not name them as they are by then.
-    for (n, edge) in given.iter().enumerate() {
-        edges[n] = *edge as u16;
+    // Kept: by an index: in a loop over `edges.iter_mut().zip(given)` the invariant, which is of the
+    // first n of `edges`, could not name them as they are by then.
+    for n in 0..given.len() {
+        edges[n] = given[n] as u16;
     }
 }
 
@@ -220,6 +220,16 @@ fn judge(graph: Graph) -> Result<FreeChain, Fault>
     judge_in::<MOST_NODES>(graph)
 }
 
+// Copies the edges given.
+fn copy(given: &[u16], edges: &mut [u16])
+    requires { length edges.old ≡ length given.now }
+    ensures { edges.new ≡ given.now }
+{
+    for n in 0..given.len() {
+        edges[n] = given[n];
+    }
+}
+
 // The table of lists whose edges are good, or none.
 fn load_table(given: Graph, left: &mut [u16], right: &mut [u16], colour: &mut [u8]) -> Made
     requires left_len { length left.old ≡ given.m }
@@ -233,8 +243,8 @@ fn load_table(given: Graph, left: &mut [u16], right: &mut [u16], colour: &mut [u
 {
     match judge(given) {
         Ok(whole) => {
-            left.copy_from_slice(given.left);
-            right.copy_from_slice(given.right);
+            copy(given.left, left);
+            copy(given.right, right);
             fresh::whiten(colour);
             Made {
                 answer: Answer::Started(whole.last),

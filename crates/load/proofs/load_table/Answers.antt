@@ -7,7 +7,7 @@ use Rattle.load.proofs.load_table.Goals as goal
 pub returns-in-Ok-clause-colour_value : goal.returns-in-Ok-clause-colour_value
 returns-in-Ok-clause-colour_value c =
     load_done _ _ _ _ _ _ _ _ _ _ _ _ _ _ _ c.in-Ok.ensures.answer_value refl
-    c.copy_from_slice.ensures.after c.copy_from_slice-in-Ok.ensures.after c.requires.colour_len
+    c.copy.ensures c.copy-in-Ok.ensures c.requires.colour_len
     c.whiten.ensures refl c.in-Ok.ensures.free_value c.fresh.ensures
 
 pub returns-in-Err-clause-colour_value : goal.returns-in-Err-clause-colour_value
