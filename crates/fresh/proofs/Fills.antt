@@ -2,12 +2,11 @@
 use Prim.Native.Nat.{ℕ, zero, suc, ◌+◌, ◌≤◌}
 use native.Mathlib.Omega.{arith}
 use native.Mathlib.Numerals.{add-one}
-use mathlib.Core.Path.{◌≡◌, refl}
+use mathlib.Core.Path.{◌≡◌}
 use mathlib.Core.List.{List, ◌∷◌, ◌++◌, append-nil}
-use lib.ListN.{length, take, drop, set, replicate}
+use lib.ListN.{length, take, drop, set}
 use lib.Seq.{drop-length, length-take-le, append_snoc, set_split, drop_at}
 use Rattle.rules.specs.Fresh.{tabulate}
-use Rattle.std.proofs.lemmas.List.{replicate-append-replicate}
 
 -- What is still to be written, as f has it, in front of what is written, is one and the same list
 -- at every turn.
@@ -30,10 +29,3 @@ pub done : (f : ℕ → ℕ) (l w : List ℕ) (n : ℕ) → n ≤ 0 → tabulate
 unfolding tabulate
 done f l w zero h e = e
 done f l w (suc n) h e = absurd (omega arith)
-
--- a list of one value
-pub constant : (f : ℕ → ℕ) (v n : ℕ) → ((k : ℕ) → v ≡ f k) → replicate n v ≡ tabulate f n
-unfolding tabulate
-constant f v zero e = refl
-constant f v (suc n) e =
-    rw (← constant f v n e, ← e n, replicate-append-replicate n 1 v, add-one)

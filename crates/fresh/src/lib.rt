@@ -36,15 +36,26 @@ fn link_free(left: &mut [u16], m: u16, r: u16) -> u16
     node
 }
 
+// Clears the first n edges.
+fn clear(edges: &mut [u16], n: u16)
+    requires { n ≤ length edges.old }
+    ensures { edges.new ≡ tabulate no_edge n ++ drop n edges.old }
+{
+    for i in (0..usize::from(n)).rev() {
+        edges[i] = 0;
+    }
+}
+
 // Makes every node white.
 pub fn whiten(colour: &mut [u8])
     ensures { colour.new ≡ tabulate all_white (length colour.old) }
 {
-    colour.fill(0);
+    for n in (0..colour.len()).rev() {
+        colour[n] = 0;
+    }
 }
 
-// Writes every node: the free ones from the top, the rest by `fill`. FREE leads to the first free
-// node; to NIL if none is free.
+// Writes every node, from the top. FREE leads to the first free node; to NIL if none is free.
 // Kept: three slices: a struct of three `&mut` slices would need a clause that it lends the same
 // ones afterwards, as `SameSlices` of session is, and jenturik_fresh lends them one by one.
 fn fill(left: &mut [u16], right: &mut [u16], colour: &mut [u8], m: u16, r: u16)
@@ -57,9 +68,9 @@ fn fill(left: &mut [u16], right: &mut [u16], colour: &mut [u8], m: u16, r: u16)
         ≡ fresh_state 2 m r }
 {
     let first = link_free(left, m, r);
-    left[..usize::from(r + 2)].fill(0);
+    clear(left, r + 2);
     left[1] = first;
-    right.fill(0);
+    clear(right, m);
     whiten(colour);
 }
 
