@@ -1,17 +1,12 @@
 -- What is put into a buffer, part by part.
-use Prim.Native.Nat.{ℕ, suc, min, ◌+◌, ◌-◌, ◌<◌, ◌≤◌}
+use Prim.Native.Nat.{ℕ, ◌+◌, ◌<◌, ◌≤◌}
 use mathlib.Core.Path.{◌≡◌, refl, sym, ◌∙◌, ap}
-use mathlib.Core.List.{List, [], ◌∷◌, ◌++◌, append-nil, append_assoc}
+use mathlib.Core.List.{List, [], ◌∷◌, ◌++◌, append-nil}
 use native.Mathlib.Omega.{arith}
 use native.Mathlib.Numerals.{add-one}
-use mathlib.Core.Bool.{Bool, true, false}
-use borrow.Author.Tests.{lt-ltb, le-ltb, leb-true, leb-false}
-use lib.Dec.{leb}
-use borrow.Rule.Slice.PartMut.{put_mid, Post-is}
-use Rattle.std.proofs.lemmas.List.Edits.{sets-eq, sets}
-use lib.ListN.{length, take, drop, set, drop_of_length-le}
-use lib.ListN.{length-append, length-set, take-append-drop}
-use lib.Seq.{length-take-le, take-suc-set, append_snoc}
+use borrow.Author.Tests.{lt-ltb, le-ltb}
+use lib.ListN.{length, get_or, drop, set, drop_of_length-le, length-append, length-set}
+use lib.Seq.{drop-cons, take-suc-set, append_snoc}
 use Rattle.base.specs.Choice.{pick}
 use Rattle.base.proofs.Tests.{split}
 use Rattle.text.specs.Answers.{digit_of, decimal, said, Written, written, contents, put}
@@ -21,7 +16,12 @@ pub put_none : (w : Written) → w ≡ put_all w []
 unfolding put_all
 put_none w = refl
 
-put_done : (w : Written) (k : ℕ) (word : List ℕ) → length word ≤ k → w ≡ put_all w (drop k word)
+pub put_turn : (w : Written) (k : ℕ) (word : List ℕ) → k < length word → put_all w (drop k word)
+    ≡ put_all (put w (get_or word k 0)) (drop (k + 1) word)
+unfolding put_all
+put_turn w k word h = rw (drop-cons word k 0 h, add-one k)
+
+pub put_done : (w : Written) (k : ℕ) (word : List ℕ) → length word ≤ k → w ≡ put_all w (drop k word)
 unfolding put_all
 put_done w k word h = rw (drop_of_length-le word h)
 
@@ -35,26 +35,14 @@ put_room : (w : Written) (b : ℕ) → w.used < length w.out → put w b
 unfolding put pick
 put_room w b h = rw (lt-ltb _ _ h)
 
--- where there is room, a word stands behind what is used, and the rest is as it was
-put_sets : (word out : List ℕ) (used : ℕ) → used + length word ≤ length out
-    → written (sets out used word) (used + length word) ≡ put_all (written out used) word
-unfolding put_all
-put_sets [] out used h = ap (λ n. written out n) (omega arith)
-put_sets (b ∷ word) out used h =
-    rw (put_room (written out used) b (omega arith), add-one used)
-    (ap (λ n. written (sets (set out used b) (suc used) word) n) (omega arith)
-    ∙ put_sets word (set out used b) (suc used) (omega (arith, length-set out used b)))
-
-pub put_fits : (word out : List ℕ) (used : ℕ) → used + length word ≤ length out
-    → written (put_mid used (used + length word - used) out word) (used + length word)
-    ≡ put_all (written out used) word
-put_fits word out used h =
-    rw (
-      Post-is used (used + length word) out (omega arith),
-      ← append_assoc (take used out) word (drop (used + length word) out),
-      ← sets-eq word out used h,
-    )
-    (put_sets word out used h)
+-- where there is room for byte k of a word, it stands behind the k before it
+pub put_next : (out : List ℕ) (used k : ℕ) (word : List ℕ) → k < length word
+    → used + k < length out → put_all (written out (used + k)) (drop k word)
+    ≡ put_all (written (set out (used + k) (get_or word k 0)) (used + (k + 1))) (drop (k + 1) word)
+put_next out used k word h r =
+    put_turn _ k word h ∙ rw (put_room (written out (used + k)) (get_or word k 0) r)
+    (ap (λ n. put_all (written (set out (used + k) (get_or word k 0)) n) (drop (k + 1) word))
+    (omega arith))
 
 pub put_full : (w : Written) (b : ℕ) → length w.out ≤ w.used → put w b ≡ w
 unfolding put pick
@@ -90,34 +78,6 @@ longer (b ∷ bs) w h =
       holds = q.holds
           ∙ rw p.holds (append_snoc (contents w) b bs);
     }
-
--- what has no room changes nothing
-pub put_stays : (bs : List ℕ) (w : Written) → length w.out ≤ w.used → w ≡ put_all w bs
-unfolding put_all
-put_stays [] w h = refl
-put_stays (b ∷ bs) w h = rw (put_full w b h) (put_stays bs w h)
-
-put_rest : (word : List ℕ) (n : ℕ) (w : Written) → (n < length word → length w.out ≤ w.used)
-    → w ≡ put_all w (drop n word)
-put_rest word n w h = go (leb (length word) n) refl
-  where
-    go : (t : Bool) → leb (length word) n ≡ t → w ≡ put_all w (drop n word)
-    go true q = put_done w n word (leb-true _ _ q)
-    go false q = put_stays (drop n word) w (h (leb-false _ _ q))
-
--- as much of a word as there is room for
-pub put_cut : (word out : List ℕ) (used n : ℕ) → used ≤ length out
-    → n ≡ min (length out - used) (length word)
-    → written (put_mid used (used + n - used) out (take n word)) (used + n)
-    ≡ put_all (written out used) word
-put_cut word out used n h e =
-    let l = length-take-le n word (omega arith) in
-    let f : used + length (take n word) ≤ length out = omega arith in
-    let v = longer (take n word) (written out used) f in
-    rw l at (put_fits (take n word) out used f)
-    ∙ put_rest word n (put_all (written out used) (take n word)) (λ k. omega arith)
-    ∙ sym (put_append (written out used) (take n word) (drop n word))
-    ∙ ap (λ bs. put_all (written out used) bs) (take-append-drop n word)
 
 digit_short : (n ten : ℕ) → length (digit_of n ten) ≤ 1
 unfolding digit_of

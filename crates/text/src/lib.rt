@@ -328,21 +328,38 @@ pub fn put(out: &mut [u8], used: usize, b: u8) -> usize
     used
 }
 
+// Bytes more of the output, which has room for all of them.
+fn put_whole(out: &mut [u8], used: usize, word: &[u8])
+    requires { used + length word.now ≤ length out.old }
+    ensures { written out.new (used + length word.now)
+        ≡ put_all (written out.old used) word.now }
+{
+    // Kept: no `copy_from_slice`: its module depends on the size of a pointer, and a back end calls
+    // memmove for it.
+    for k in 0..word.len() {
+        out[used + k] = word[k];
+    }
+}
+
+// Bytes more of the output, one by one, as far as there is room; answers how much is used.
+fn put_part(out: &mut [u8], used: usize, word: &[u8]) -> usize
+    ensures { written out.new result ≡ put_all (written out.old used) word.now }
+{
+    let mut at = used;
+    for k in 0..word.len() {
+        at = put(out, at, word[k]);
+    }
+    at
+}
+
 // Bytes more of the output, as far as there is room; answers how much is used.
 pub fn put_all(out: &mut [u8], used: usize, word: &[u8]) -> usize
     ensures { written out.new result ≡ put_all (written out.old used) word.now }
 {
-    if out.len() < used {
-        return used;
+    if out.len() < used || out.len() - used < word.len() {
+        return put_part(out, used, word);
     }
-    // Kept: two copies; tried: one of `usize::min(room, word.len())` bytes takes the program 17 to
-    // 21 % longer.
-    let room = out.len() - used;
-    if room < word.len() {
-        out[used..used + room].copy_from_slice(&word[..room]);
-        return used + room;
-    }
-    out[used..used + word.len()].copy_from_slice(word);
+    put_whole(out, used, word);
     used + word.len()
 }
 
