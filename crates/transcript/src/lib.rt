@@ -168,30 +168,6 @@ fn closed(out: &mut [u8], s: Session) -> Session
     }
 }
 
-// The end of the input, in the buffers that are lent: the last line may lack its newline.
-fn end_input(b: &mut Buffers<'_>, s: Session) -> Session
-    ensures same { SameSlices b.old b.new }
-    ensures stands { stand_in result b.new ≡ finish (stand_in s b.old) }
-{
-    if bare(s) {
-        return closed(b.out, emptied(s));
-    }
-    let t = feed(b, s, b"\n");
-    closed(b.out, t)
-}
-
-// What a read delivered: n bytes of the input, or none, which is its end.
-pub fn turn_in(b: &mut Buffers<'_>, s: Session, input: &[u8], n: usize) -> Session
-    ensures same { SameSlices b.old b.new }
-    ensures stands { stand_in result b.new ≡ turn n input.now (stand_in s b.old) }
-{
-    if n == 0 {
-        return end_input(b, s);
-    }
-    let end = n.min(input.len());
-    feed(b, s, &input[..end])
-}
-
 // Kept: the buffers one by one in the three calls below, whose promises are read slice by slice by
 // `block_determined`, `finish_determined` and `turn_determined` in crate whole.
 
@@ -239,16 +215,11 @@ pub fn finish(
         out.new ≡ finish (stand s left.old right.old colour.old lefts.old rights.old
         line.old out.old) }
 {
-    let mut b = Buffers {
-        left,
-        right,
-        colour,
-        lefts,
-        rights,
-        line,
-        out,
-    };
-    end_input(&mut b, s)
+    if bare(s) {
+        return closed(out, emptied(s));
+    }
+    let t = block(left, right, colour, lefts, rights, line, out, s, b"\n");
+    closed(out, t)
 }
 
 // What a read delivered: n bytes of the input, or none, which is its end.
@@ -268,7 +239,11 @@ pub fn turn(
         out.new ≡ turn n input.now (stand s left.old right.old colour.old lefts.old
         rights.old line.old out.old) }
 {
-    let mut b = Buffers {
+    if n == 0 {
+        return finish(left, right, colour, lefts, rights, line, out, s);
+    }
+    let end = n.min(input.len());
+    block(
         left,
         right,
         colour,
@@ -276,6 +251,17 @@ pub fn turn(
         rights,
         line,
         out,
-    };
-    turn_in(&mut b, s, input, n)
+        s,
+        &input[..end],
+    )
+}
+
+// The same in the buffers that are lent together.
+pub fn turn_in(b: &mut Buffers<'_>, s: Session, input: &[u8], n: usize) -> Session
+    ensures same { SameSlices b.old b.new }
+    ensures stands { stand_in result b.new ≡ turn n input.now (stand_in s b.old) }
+{
+    turn(
+        b.left, b.right, b.colour, b.lefts, b.rights, b.line, b.out, s, input, n,
+    )
 }

@@ -1,17 +1,17 @@
--- `turn_in` meets its contract: no byte is the end of the input, and else the part that is lent is
+-- `turn` meets its contract: no byte is the end of the input, and else the part that is lent is
 -- what was read.
 use Rattle.std.proofs.lemmas.List.{take_min}
 use Rattle.base.proofs.Tests.{pick_yes, pick_no, eq_yes, eq_no}
 use Rattle.session.specs.Feeding.{turn}
-use Rattle.transcript.proofs.turn_in.Goals as goal
+use Rattle.transcript.proofs.turn.Goals as goal
 
-pub returns-then-n-eq0-clause-stands : goal.returns-then-n-eq0-clause-stands
+pub returns-then-n-eq0 : goal.returns-then-n-eq0
 unfolding turn
-returns-then-n-eq0-clause-stands c =
-    pick_yes _ _ _ _ (eq_yes _ _ c.if-n-eq0.true) c.end_input.ensures.stands
+returns-then-n-eq0 c =
+    pick_yes _ _ _ _ (eq_yes _ _ c.if-n-eq0.true) c.finish.ensures
 
-pub returns-clause-stands : goal.returns-clause-stands
+pub returns : goal.returns
 unfolding turn
-returns-clause-stands c =
+returns c =
     pick_no _ _ _ _ (eq_no _ _ c.if-n-eq0.false)
-    (rw (c.min-end.ensures, take_min) at c.feed.ensures.stands)
+    (rw (c.min-end.ensures, take_min) at c.block.ensures)
