@@ -40,6 +40,7 @@ fn quiet(x: Record) -> u16
 }
 
 // How many colours from i on, in a row and at most most, are not white.
+// Kept: no `position`: the library's module would depend on the size of a pointer.
 fn until_white(colour: &[u8], i: usize, most: usize) -> usize
     requires { i + most ≤ length colour.now }
     ensures { (result ≤ most) × (result ≤ dark most i colour.now) }

@@ -112,7 +112,8 @@ fn narrow(given: &[u32], edges: &mut [u16])
     ensures { take (length given.now) edges.new ≡ given.now }
 {
     // Kept: by an index: in a loop over `edges.iter_mut().zip(given)` the invariant, which is of the
-    // first n of `edges`, could not name them as they are by then.
+    // first n of `edges`, could not name them as they are by then; and by an iterator the library's
+    // module would depend on the size of a pointer.
     for n in 0..given.len() {
         edges[n] = given[n] as u16;
     }
@@ -221,6 +222,8 @@ fn judge(graph: Graph) -> Result<FreeChain, Fault>
 }
 
 // Copies the edges given.
+// Kept: no `copy_from_slice`: the library's module would depend on the size of a pointer, and ask
+// for memmove.
 fn copy(given: &[u16], edges: &mut [u16])
     requires { length edges.old ≡ length given.now }
     ensures { edges.new ≡ given.now }

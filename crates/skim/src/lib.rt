@@ -23,6 +23,8 @@ pub fn stop(v: u8) -> u8
 
 // How many of the colours, at most a block, stop a look. It reads them all, so that the compiler
 // can take them many at a time where they are a block.
+// Kept: by numbers, here and below: with an iterator over a slice the library's module would depend
+// on the size of a pointer.
 fn stops_among(colours: &[u8]) -> u8
     requires { length colours.now ≤ block }
     ensures { (result ≤ length colours.now) × (result ≡ stops colours.now 0 (length colours.now)) }
