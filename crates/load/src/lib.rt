@@ -111,9 +111,9 @@ fn narrow(given: &[u32], edges: &mut [u16])
     requires below { Below most_nodes given.now }
     ensures { take (length given.now) edges.new ≡ given.now }
 {
-    // Kept: by an index: in a loop over `edges.iter_mut().zip(given)` the invariant, which is of the
-    // first n of `edges`, could not name them as they are by then; and by an iterator the library's
-    // module would depend on the size of a pointer.
+    // Kept: by an index: in a loop over `edges.iter_mut().zip(given)` the invariant, which is of
+    // the first n of `edges`, could not name them as they are by then; and by an iterator the
+    // library's module would depend on the size of a pointer.
     for n in 0..given.len() {
         edges[n] = given[n] as u16;
     }
