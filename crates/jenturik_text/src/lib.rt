@@ -2,7 +2,7 @@
 // buffers and a session's words, which the caller keeps.
 #![tactic(auto)]
 
-ghost use Rattle.std.specs.Prelude.{◌≡◌, true, IfOk, IfErr};
+ghost use Rattle.std.specs.Prelude.{◌≡◌, ◌++◌, true, replicate, IfOk, IfErr};
 ghost use Rattle.record_words.specs.Words.{word};
 ghost use Rattle.session.specs.Feeding.{held};
 ghost use Rattle.jenturik_text.specs.Words.{tag_of, entry_of, words_of};
@@ -26,8 +26,6 @@ const TABLE: usize = 25;
 const ENTRY: usize = 26;
 
 const AT: usize = 27;
-
-const UNUSED: usize = 28;
 
 // What a block answers: how many bytes of the output are printed, the code, and whether the run is
 // over: 0 it goes on, 1 the first line was refused, 2 the export was.
@@ -76,6 +74,19 @@ fn entry(stage: Stage) -> usize
     }
 }
 
+// The record's words, and 0 behind them.
+fn with_record(v: [u32; record_words::WORDS]) -> [u32; WORDS]
+    ensures { result ≡ v ++ replicate 8 0 }
+{
+    // Kept: no `copy_from_slice`, here and in `record_part`: its module depends on the size of a
+    // pointer.
+    let mut words = [0; WORDS];
+    for k in 0..record_words::WORDS {
+        words[k] = v[k];
+    }
+    words
+}
+
 // The session's words; the output is not among them.
 // Kept: the casts narrow by `as`: that each number fits is what `Fits` requires.
 // Kept: this and `session_of` are functions and no `TryFrom`: that words are a session's is tested
@@ -85,8 +96,7 @@ fn words_of(s: Session) -> [u32; WORDS]
     ensures value { result ≡ words_of s.stage s.run.rec s.run.at }
     ensures true_value { true ≡ is_session result }
 {
-    let mut words = [0; WORDS];
-    words[..record_words::WORDS].copy_from_slice(&record_words::words_of(s.run.rec));
+    let mut words = with_record(record_words::words_of(s.run.rec));
     words[STAGE] = tag(s.stage);
     words[TABLE] = table(s.stage) as u32;
     words[ENTRY] = entry(s.stage) as u32;
@@ -99,7 +109,9 @@ fn record_part(w: [u32; WORDS]) -> [u32; record_words::WORDS]
     ensures { result ≡ record_part w }
 {
     let mut words = [0; record_words::WORDS];
-    words.copy_from_slice(&w[..record_words::WORDS]);
+    for k in 0..record_words::WORDS {
+        words[k] = w[k];
+    }
     words
 }
 
@@ -136,7 +148,7 @@ fn most_entry(tag: u32) -> u32
 fn all_zero(w: [u32; WORDS]) -> bool
     ensures { result ≡ all_zero (word w 28) (word w 29) (word w 30) (word w 31) }
 {
-    w[UNUSED..].iter().all(|&word| word == 0)
+    w[28] == 0 && w[29] == 0 && w[30] == 0 && w[31] == 0
 }
 
 // Whether words are a session's.

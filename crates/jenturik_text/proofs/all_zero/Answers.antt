@@ -1,16 +1,14 @@
--- `all` answers what the definition tests of each word.
+-- Each word is tested as the definition does.
 use native.Mathlib.Omega.{arith}
-use mathlib.Core.Path.{◌∙◌}
-use lib.Dec.{eqb}
-use borrow.Author.Rules.{rules}
-use borrow.Author.Tests.{tests}
-use Rattle.std.proofs.lemmas.Iterator.{YieldsList-from_slice}
-use Rattle.std.proofs.lemmas.Iterator.Search.{all_from_yields_List}
-use Rattle.jenturik_text.proofs.Parts.{last_zero}
+use Rattle.base.specs.Choice.{every, pick}
+use Rattle.base.proofs.Tests.{tests}
+use Rattle.jenturik_text.specs.Words.{all_zero}
 use Rattle.jenturik_text.proofs.all_zero.Goals as goal
 
-pub returns : goal.returns
-returns c =
-    all_from_yields_List (λ n. eqb n 0) _ _ _ c.all.ensures.ran
-    (YieldsList-from_slice _ c.iter.ensures.rest) (λ x b q k. search (rules, tests))
-    ∙ last_zero c.args.w (omega arith)
+pub returns-then-w-eq0-3 : goal.returns-then-w-eq0-3
+unfolding all_zero every pick
+returns-then-w-eq0-3 c = grind (arith, tests)
+
+pub returns-else-w-eq0-3 : goal.returns-else-w-eq0-3
+unfolding all_zero every pick
+returns-else-w-eq0-3 c = grind (arith, tests)

@@ -8,7 +8,7 @@ returns-clause-true_value c =
     let rec = c.words_of.ensures in
     words_are c.args.s _ _ c.requires
     (rw (
-      c.copy_from_slice.ensures.after,
+      c.with_record-words.ensures,
       rec.value,
       c.tag.ensures,
       c.table.ensures,
