@@ -24,11 +24,8 @@ impl From<Damaged> for Refusal {
     ghost from_gives = { λ d r. r ≡ missed d };
 
     fn from(d: Damaged) -> Refusal {
-        Refusal {
-            code: 7,
-            node: d.node,
-            detail: d.side,
-        }
+        let (code, node, detail) = (7, d.node, d.side);
+        Refusal { code, node, detail }
     }
 }
 
