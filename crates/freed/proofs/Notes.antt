@@ -67,12 +67,12 @@ module _ (list : List ℕ) (n v : ℕ) (a : Answer) (e : true ≡ is_appended a)
   pub noted_rest : drop (n + 1) (set list n v) ≡ drop (n + 1) list
   noted_rest = drop-set-lt (n + 1) list n v (omega arith)
 
-module _ (n : ℕ) (a : Answer) (e : false ≡ is_appended a) where
-  pub same_count : n ≡ n + length (appended_by a)
-  same_count = rw (none_by a e) (omega arith)
+module _ (n k : ℕ) (a : Answer) (e : false ≡ is_appended a) (same : k ≡ n) where
+  pub same_count : k ≡ n + length (appended_by a)
+  same_count = rw (none_by a e, same) (omega arith)
 
-  pub same_front : (list : List ℕ) → take n list ≡ take n list ++ appended_by a
-  same_front list = rw (none_by a e) (sym (append-nil (take n list)))
+  pub same_front : (list : List ℕ) → take k list ≡ take n list ++ appended_by a
+  same_front list = rw (none_by a e, same) (sym (append-nil (take n list)))
 
 -- there is room for them
 pub within : (k k' room : ℕ) (a : Answer) → k' ≡ k + length (appended_by a) → k < room → k' ≤ room
@@ -93,11 +93,11 @@ still k k' a x y e h =
     ∙ ap (drop (length (appended_by a))) h ∙ drop-drop (length (appended_by a)) k y)
 
 -- a number as 16 bits, or the largest of these
-pub room_is : {E : Type 0} (n room : ℕ) (r : Result ℕ E) → OkIff r (n < 65536) n
+pub room_is : {E : Type 0} (n k room : ℕ) (r : Result ℕ E) → k ≡ n → OkIff r (k < 65536) k
     → room ≡ result_unwrap_or r 65535 → room ≡ room_of n
 unfolding room_of pick
-room_is n room (Ok x) h e = let a = h.0 in let b = h.1 in grind (arith, nat_tests)
-room_is n room (Err x) h e = grind (arith, nat_tests)
+room_is n k room (Ok x) q h e = let a = h.0 in let b = h.1 in grind (arith, nat_tests)
+room_is n k room (Err x) q h e = grind (arith, nat_tests)
 
 pub room_in : (room n : ℕ) → room ≡ room_of n → room ≤ n
 unfolding room_of

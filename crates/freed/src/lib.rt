@@ -106,6 +106,8 @@ fn note(list: &mut [u16], count: u16, a: Answer) -> u16
             list[usize::from(count)] = n;
             count + 1
         }
+        // Append makes this node white, and it stays in use.
+        Answer::Whitened(_) => count,
         _ => count,
     }
 }

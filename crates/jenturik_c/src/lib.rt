@@ -626,7 +626,7 @@ fn zeros(step: &[u32]) -> bool
     requires { length step.now ≡ STEP_WORDS }
     ensures { result ≡ zeros step.now UNUSED }
 {
-    step[UNUSED..].iter().all(|&word| word == 0)
+    step[UNUSED] == 0 && step[UNUSED + 1] == 0 && step[UNUSED + 2] == 0 && step[UNUSED + 3] == 0
 }
 
 // The kind of the step that words are: none that can be read where a word without a use is not 0.

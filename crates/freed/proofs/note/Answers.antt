@@ -1,6 +1,7 @@
 -- `note` meets its contract: a node is written behind those that are noted, or nothing is.
 use mathlib.Core.Path.{refl, ◌≡◌}
-use mathlib.Core.Bool.{true}
+use mathlib.Core.Bool.{true, false}
+use native.Mathlib.Omega.{arith}
 use Rattle.rules.specs.Steps.{node_of}
 use Rattle.freed.specs.Freed.{is_appended}
 use Rattle.freed.proofs.Notes.{noted_count, noted_front, noted_rest, same_count, same_front}
@@ -19,11 +20,20 @@ returns-in-Appended c =
       list_value_2 = noted_rest at.list.now at.count _ at.a one h node;
     }
 
+pub returns-in-Whitened : goal.returns-in-Whitened
+returns-in-Whitened c =
+    let at = c.args in
+    let none : false ≡ is_appended at.a = rw c.in-Whitened.is refl in record {
+      value = same_count at.count _ at.a none (omega arith);
+      list_value = same_front at.count _ at.a none (omega arith) at.list.now;
+      list_value_2 = refl;
+    }
+
 pub returns-in_default : goal.returns-in_default
 returns-in_default c =
     let at = c.args in
     let none = none_other at.a c.in_default.not-Appended in record {
-      value = same_count at.count at.a none;
-      list_value = same_front at.count at.a none at.list.now;
+      value = same_count at.count _ at.a none refl;
+      list_value = same_front at.count _ at.a none refl at.list.now;
       list_value_2 = refl;
     }
