@@ -5,22 +5,12 @@ use native.Mathlib.Nat.{add-zero}
 use native.Mathlib.Numerals.{add-one}
 use mathlib.Core.Path.{◌≡◌, refl, sym, ap, ap₂, subst, ◌∙◌}
 use mathlib.Core.List.{List, ◌∷◌}
-use lib.Dec.{eqb}
 use lib.ListN.{length, get_or, take, drop}
 use lib.Seq.{drop-cons, get_or-take, get_or-drop}
-use Rattle.std.specs.List.{list_all}
-use Rattle.base.specs.Choice.{every, pick}
 use Rattle.record_words.specs.Words.{word}
-use Rattle.record_words.proofs.RoundTrip.{parts}
 use Rattle.rules.specs.declared.Step.{Step}
 use Rattle.jenturik_c.specs.Flat.{step_at, steps_from, steps_of, STEP_WORDS, UNUSED, zeros}
 use Rattle.jenturik_c.specs.Flat.{kind_at, at as word_at}
-
--- the words without a use, of a step's words
-pub all_zero : (w : List ℕ) → length w ≡ STEP_WORDS
-    → list_all (λ (n : ℕ). eqb n 0) (take (length w - UNUSED) (drop UNUSED w)) ≡ zeros w UNUSED
-unfolding zeros every pick
-all_zero w e = rw (e, parts w 4 UNUSED (omega (arith, e))) (grind arith)
 
 -- a step that is read from its own words
 module _ (w : List ℕ) (i k : ℕ) (e : k ≡ STEP_WORDS) where
