@@ -442,19 +442,20 @@ impl Record {
     }
 
     // The shade of node n is owed.
-    pub fn owing(mut self, n: u16) -> Record
+    pub fn owing(self, n: u16) -> Record
         ensures { result ≡ owing self n }
     {
-        self.owed = Some(n);
-        self
+        Record {
+            owed: Some(n),
+            ..self
+        }
     }
 
     // The shade is paid: nothing is owed.
-    pub fn paid(mut self) -> Record
+    pub fn paid(self) -> Record
         ensures { result ≡ paid self }
     {
-        self.owed = None;
-        self
+        Record { owed: None, ..self }
     }
 
     // The free list ends at n.
