@@ -66,6 +66,8 @@ fn load_part(
 }
 
 // All lines of an export are read: Load answers, and its table is served unless it is refused.
+// It is done once, and apart: else each line would have Load's arrays in its frame.
+#[inline(never)]
 fn fill(
     left: &mut [u16],
     right: &mut [u16],
