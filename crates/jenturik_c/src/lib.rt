@@ -165,6 +165,7 @@ fn refused(code: u8) -> Told
 
 // The record that words are, where it passes with slices of these lengths; else code 1 or 2.
 // Kept: the error is a number: the codes are those of the rules (`judged` [C 4]), for C too.
+// Kept: one copy of the words, for both calls: with one for each, words are loaded twice.
 fn passed(
     left: &[u16],
     right: &[u16],
@@ -174,8 +175,9 @@ fn passed(
     ensures ok { IfOk result (Passing left.now right.now colour.now words.now) }
     ensures err { IfErr result (Barred left.now right.now colour.now words.now) }
 {
-    match record_words::judge(left.len(), right.len(), colour.len(), *words) {
-        0 => Ok(record_words::record_of(*words)),
+    let w = *words;
+    match record_words::judge(left.len(), right.len(), colour.len(), w) {
+        0 => Ok(record_words::record_of(w)),
         code => Err(code),
     }
 }

@@ -122,6 +122,8 @@ fn narrow(given: &[u32], edges: &mut [u16])
 // Code 12: the free chain, or the first node that breaks it. The free nodes are marked.
 // Kept: the marks are numbers, as the definition `chain` has them. `Below` is a clause and no ghost
 // field of `Graph`, since In use follows graphs with bad edges.
+// Kept: the node goes on as an index, and its number is made of it: made the other way, each turn
+// waits for one instruction more.
 fn chain(graph: Graph, free: &mut [u8]) -> Result<FreeChain, Fault>
     requires m_in_bounds { graph.m ≤ length free.old }
     requires below { Below graph.m graph.left.now }
@@ -130,9 +132,9 @@ fn chain(graph: Graph, free: &mut [u8]) -> Result<FreeChain, Fault>
     ensures free_value { IfOk result (λ c. c.free
         ≡ chain_length (edges graph.entry) graph.entry.m 1) }
 {
-    let mut n = 1;
+    let mut at = 1;
     for k in 0..graph.m {
-        let at = usize::from(n);
+        let n = at as u16;
         if graph.right[at] != 0 {
             return Err(Fault::Broken(n));
         }
@@ -145,9 +147,9 @@ fn chain(graph: Graph, free: &mut [u8]) -> Result<FreeChain, Fault>
             return Err(Fault::Broken(n));
         }
         free[to] = 1;
-        n = next;
+        at = to;
     }
-    Err(Fault::Broken(n))
+    Err(Fault::Broken(at as u16))
 }
 
 // Whether node n is free and marked.

@@ -13,14 +13,14 @@ use Rattle.load.proofs.chain.Goals.{then-next-graph-via-else-next-graph+then-fre
 pub returns-then-graph-at-ne0-clause-answer_value
     : goal.returns-then-graph-at-ne0-clause-answer_value
 returns-then-graph-at-ne0-clause-answer_value c =
-    let right = rw c.from-at.ensures at c.if-graph-at-ne0.true in
+    let right = c.if-graph-at-ne0.true in
     rw (c.loop-k.invariant.rest, chain_turn _ _ _ _ _ _ _ c.loop-k-test.true)
     (search (tests, rules) depth 12)
 
 pub returns-then-next-eq0 : goal.returns-then-next-eq0
 returns-then-next-eq0 c =
-    let right = rw c.from-at.ensures at c.if-graph-at-ne0.false in
-    let end = rw c.from-at.ensures at c.if-next-eq0.true in
+    let right = c.if-graph-at-ne0.false in
+    let end = c.if-next-eq0.true in
     record {
       answer_value = rw (c.loop-k.invariant.rest, chain_turn _ _ _ _ _ _ _ c.loop-k-test.true)
           (search (tests, rules) depth 12);
@@ -29,17 +29,17 @@ returns-then-next-eq0 c =
 
 pub returns-then-next-graph : goal.returns-then-next-graph
 returns-then-next-graph c =
-    let right = rw c.from-at.ensures at c.if-graph-at-ne0.false in
-    let on = rw c.from-at.ensures at c.if-next-eq0.false in
+    let right = c.if-graph-at-ne0.false in
+    let on = c.if-next-eq0.false in
     record {
       answer_value = rw (c.loop-k.invariant.rest, chain_turn _ _ _ _ _ _ _ c.loop-k-test.true)
           (elim c.then-next-graph.branch [
             | then-next-graph-via-then-next-graph w ↦
-                let low = rw c.from-at.ensures at w.if-next-graph.true in
+                let low = w.if-next-graph.true in
                 search (tests, rules) depth 12
             | then-next-graph-via-else-next-graph+then-free-to-ne0 w ↦
-                let low = rw c.from-at.ensures at w.if-next-graph.false in
-                let marked = rw (c.from-to.ensures, c.from-at.ensures) at w.if-free-to-ne0.true in
+                let low = w.if-next-graph.false in
+                let marked = rw c.from-to.ensures at w.if-free-to-ne0.true in
                 search (tests, rules) depth 12
           ]);
       free_value = tt;
@@ -47,12 +47,12 @@ returns-then-next-graph c =
 
 pub loop-k-preserved : goal.loop-k-preserved
 loop-k-preserved c =
-    let right = rw c.from-at.ensures at c.if-graph-at-ne0.false in
-    let on = rw c.from-at.ensures at c.if-next-eq0.false in
-    let high = rw c.from-at.ensures at c.if-next-graph.false in
-    let bare = rw (c.from-to.ensures, c.from-at.ensures) at c.if-free-to-ne0.false in
-    rw (c.from-to.ensures, c.from-at.ensures) record {
-      inside = omega (arith, c.requires.below c.loop-k.n);
+    let right = c.if-graph-at-ne0.false in
+    let on = c.if-next-eq0.false in
+    let high = c.if-next-graph.false in
+    let bare = rw c.from-to.ensures at c.if-free-to-ne0.false in
+    rw c.from-to.ensures record {
+      inside = omega (arith, c.requires.below c.loop-k.at);
       rest = c.loop-k.invariant.rest
           ∙ sym (rw (chain_turn _ _ _ _ _ _ _ c.loop-k-test.true)
           (search (tests, rules) depth 12));

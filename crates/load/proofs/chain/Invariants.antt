@@ -11,7 +11,7 @@ invariant-loop-k l =
     let m = l.graph.m in
     let es = l.graph.left.now ∷ l.graph.right.now ∷ [] in
     record {
-      inside : l.n < m;
-      rest : chain l.graph.r es m l.fn.free 1 ≡ chain l.graph.r es (m - l.k) l.free l.n;
-      count : chain_length es m 1 ≡ l.k + chain_length es (m - l.k) l.n;
+      inside : l.at < m;
+      rest : chain l.graph.r es m l.fn.free 1 ≡ chain l.graph.r es (m - l.k) l.free l.at;
+      count : chain_length es m 1 ≡ l.k + chain_length es (m - l.k) l.at;
     }
