@@ -13,13 +13,11 @@ use Rattle.load.proofs.chain.Goals.{then-next-graph-via-else-next-graph+then-fre
 pub returns-then-graph-at-ne0-clause-answer_value
     : goal.returns-then-graph-at-ne0-clause-answer_value
 returns-then-graph-at-ne0-clause-answer_value c =
-    let right = c.if-graph-at-ne0.true in
     rw (c.loop-k.invariant.rest, chain_turn _ _ _ _ _ _ _ c.loop-k-test.true)
     (search (tests, rules) depth 12)
 
 pub returns-then-next-eq0 : goal.returns-then-next-eq0
 returns-then-next-eq0 c =
-    let right = c.if-graph-at-ne0.false in
     let end = c.if-next-eq0.true in
     record {
       answer_value = rw (c.loop-k.invariant.rest, chain_turn _ _ _ _ _ _ _ c.loop-k-test.true)
@@ -29,16 +27,12 @@ returns-then-next-eq0 c =
 
 pub returns-then-next-graph : goal.returns-then-next-graph
 returns-then-next-graph c =
-    let right = c.if-graph-at-ne0.false in
-    let on = c.if-next-eq0.false in
     record {
       answer_value = rw (c.loop-k.invariant.rest, chain_turn _ _ _ _ _ _ _ c.loop-k-test.true)
           (elim c.then-next-graph.branch [
             | then-next-graph-via-then-next-graph w ↦
-                let low = w.if-next-graph.true in
                 search (tests, rules) depth 12
             | then-next-graph-via-else-next-graph+then-free-to-ne0 w ↦
-                let low = w.if-next-graph.false in
                 let marked = rw c.from-to.ensures at w.if-free-to-ne0.true in
                 search (tests, rules) depth 12
           ]);
@@ -47,9 +41,7 @@ returns-then-next-graph c =
 
 pub loop-k-preserved : goal.loop-k-preserved
 loop-k-preserved c =
-    let right = c.if-graph-at-ne0.false in
     let on = c.if-next-eq0.false in
-    let high = c.if-next-graph.false in
     let bare = rw c.from-to.ensures at c.if-free-to-ne0.false in
     rw c.from-to.ensures record {
       inside = omega (arith, c.requires.below c.loop-k.at);
